@@ -1,0 +1,3 @@
+//! Lines that a hand types: words between blanks, and what they name.
+
+pub mod words;
