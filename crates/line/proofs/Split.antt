@@ -1,14 +1,14 @@
 -- Where a line is cut at its first blank, the two parts are its word and its rest.
-use Prim.Native.Nat.{ℕ, suc, _+_, _<_}
+use Prim.Native.Nat.{ℕ, suc, _+_, _<_, compare·suc-suc, compare·zero-suc}
 use mathlib.Core.Path.{_≡_, refl, ap, sym, _∙_}
-use mathlib.Core.Bool.{false}
+use mathlib.Core.Bool.{true, false, cond, not, _&&_, _||_}
 use mathlib.Core.List.{List, [], _∷_, _++_}
 use native.Mathlib.Omega.{arith}
-use lib.Dec.{eqb}
+use lib.Dec.{eqb, ltb, isEq}
 use lib.ListN.{length, getD, take, drop}
 use Rattle.std.proofs.shelf.Lists.{take-append-drop, drop-more, getD-take, length-take}
 use Rattle.std.proofs.shelf.Ways.{tells}
-use Rattle.line.specs.Words.{blank, wordOf, restOf}
+use Rattle.line.specs.Words.{blank, wordOf, restOf, hasBlank, isWord}
 
 -- none of the first n bytes is a blank
 abbrev pub NoBlank : List ℕ → ℕ → Type 0
@@ -49,3 +49,16 @@ word-cut bs i h e none = parts (take i bs) (drop (i + 1) bs) (front bs i none) .
 
 pub rest-cut : (bs : List ℕ) (i : ℕ) → i < length bs → getD bs i 0 ≡ blank → NoBlank bs i → drop (i + 1) bs ≡ restOf bs
 rest-cut bs i h e none = parts (take i bs) (drop (i + 1) bs) (front bs i none) .1 ∙ ap restOf (sym (cut bs i h e))
+
+-- the first word is all of a text exactly if the text has no blank
+all-word : (bs : List ℕ) → eqb (length (wordOf bs)) (length bs) ≡ not (hasBlank bs)
+all-word [] = refl
+all-word (b ∷ bs) =
+    let rest = all-word bs in
+    elim (eqb b blank) as (λ v. eqb (length (cond v [] (b ∷ wordOf bs))) (suc (length bs)) ≡ not (v || hasBlank bs))
+    [ true ↦ ap isEq (compare·zero-suc (length bs)) | false ↦ ap isEq (compare·suc-suc (length (wordOf bs)) (length bs)) ∙ rest ]
+
+pub one-word : (ws bs : List ℕ) → ws ≡ wordOf bs → 0 < length bs → eqb (length ws) (length bs) ≡ isWord bs
+one-word ws bs e h =
+    let some : ltb 0 (length bs) ≡ true = grind (arith, tells) in
+    ap (λ v. eqb (length v) (length bs)) e ∙ all-word bs ∙ sym (ap (λ v. v && not (hasBlank bs)) some)

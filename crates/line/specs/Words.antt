@@ -1,8 +1,9 @@
 -- Words are separated by single blanks.
 use Prim.Native.Nat.{ℕ}
-use mathlib.Core.Bool.{cond}
+use mathlib.Core.Bool.{Bool, false, cond, not, _&&_, _||_}
 use mathlib.Core.List.{List, [], _∷_}
-use lib.Dec.{eqb}
+use lib.Dec.{eqb, ltb}
+use lib.ListN.{length}
 
 abbrev pub blank : ℕ
 blank = 32
@@ -16,3 +17,11 @@ wordOf (b ∷ bs) = cond (eqb b blank) [] (b ∷ wordOf bs)
 abbrev pub restOf : List ℕ → List ℕ
 restOf [] = []
 restOf (b ∷ bs) = cond (eqb b blank) bs (restOf bs)
+
+abbrev pub hasBlank : List ℕ → Bool
+hasBlank [] = false
+hasBlank (b ∷ bs) = eqb b blank || hasBlank bs
+
+-- some bytes, and no blank among them
+abbrev pub isWord : List ℕ → Bool
+isWord text = ltb 0 (length text) && not (hasBlank text)

@@ -1,7 +1,7 @@
 //! A line's first word and the rest.
 
 ghost use mathlib.Core.Path.{_≡_};
-ghost use Rattle.line.specs.Words.{wordOf, restOf};
+ghost use Rattle.line.specs.Words.{wordOf, restOf, isWord};
 
 /// What stands before the first blank, and what stands after it. A line without a blank is one word and no rest.
 pub fn first_word(line: &[u8]) -> (&[u8], &[u8])
@@ -14,4 +14,12 @@ pub fn first_word(line: &[u8]) -> (&[u8], &[u8])
         }
     }
     (line, &line[line.len()..])
+}
+
+/// Whether the text is one word: some bytes, and no blank among them.
+pub fn is_word(text: &[u8]) -> bool
+    ensures { λ r. ⌜ r ≡ isWord (now (text .entry)) ⌝ }
+{
+    let (word, _) = first_word(text);
+    text.len() > 0 && word.len() == text.len()
 }
