@@ -3,6 +3,7 @@ use Prim.Native.Nat.{ℕ, zero, suc}
 use mathlib.Core.Path.{_≡_}
 use mathlib.Core.Bool.{Bool, true, false, _&&_}
 use mathlib.Core.List.{List, [], _∷_}
+use lib.Chars.{codes}
 use lib.Dec.{eqb}
 use lib.IntN.{ℤ, pos, negsuc}
 use Rattle.std.specs.declared.option.Option.{Option}
@@ -11,6 +12,7 @@ use Rattle.geometry.specs.Bounds.{boundsAt}
 use Rattle.geometry.specs.Distance.{euclidean, manhattan, chessboard}
 use Rattle.geometry.specs.declared.bounds.Point.{Point}
 use Rattle.geometry.specs.declared.bounds.Bounds.{Bounds}
+use Rattle.level.specs.Write.{levelText}
 
 pub record Case : Type 0 where
   pub found : List ℕ
@@ -54,9 +56,14 @@ pick = point (pos 300) (pos 400) (minus 35)
 
 abbrev pub cases : List Case
 cases =
+    -- the pick at (300, 400, -35), from ground
     case (from euclidean ground pick) (251225 ∷ [])
     ∷ case (from manhattan ground pick) (735 ∷ [])
     ∷ case (from chessboard ground pick) (400 ∷ [])
+    -- a level below zero keeps its minus, also within the first foot
+    ∷ case (levelText (minus 35)) (codes "-0.35")
+    ∷ case (levelText (minus 5)) (codes "-0.05")
+    ∷ case (levelText (pos 0)) (codes "0.00")
     ∷ []
 
 abbrev pub All-hold : Type 0

@@ -45,5 +45,5 @@ orReversed (Some b) = Ok b
 orReversed None = Err (plain 6)
 
 -- the box with these corners: refused by 5 if an end is out of range, then by 6 if a low end lies above its high end
-abbrev pub boundsOf : Point → Point → Result Bounds Told
+unfoldable pub boundsOf : Point → Point → Result Bounds Told
 boundsOf low high = cond (pointInRange low && pointInRange high) (orReversed (boundsAt low high)) (Err (plain 5))
