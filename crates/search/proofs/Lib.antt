@@ -1,0 +1,10 @@
+pub mod Lists
+pub mod Waiting
+pub mod Tree
+pub mod Glances
+pub mod Turns
+pub mod Search
+pub mod Law
+pub mod Item
+pub mod Room
+pub mod Carried
