@@ -1,13 +1,12 @@
 -- The order of items is lawful, and so is the search of every sound tree of items.
 use mathlib.Core.Path.{_≡_, refl}
-use mathlib.Core.Bool.{Bool, true, false, _&&_, _||_}
+use mathlib.Core.Bool.{true, false}
 use Prim.Native.Nat.{ℕ, _≤_, _<_}
 use native.Mathlib.Omega.{arith}
-use lib.Dec.{ltb, eqb}
 use Rattle.std.specs.shelf.Lists.{List, All}
 use Rattle.std.proofs.shelf.Tests.{true≢false, false≢true}
 use Rattle.std.proofs.shelf.Ways.{tells}
-use Rattle.search.specs.Tree.{Tree, below, Sound}
+use Rattle.search.specs.Tree.{below, Sound}
 use Rattle.search.specs.Item.{Class, node, final, Item, isNode, rank, beforeItem, itemTree, SearchIsLawful, NextTellsTheNearest}
 use Rattle.search.proofs.Tree.{Ordered, sound-members}
 use Rattle.search.proofs.Law.{lawful, nearest-is-told}
@@ -18,13 +17,10 @@ same-class node final e = absurd (omega (arith, e))
 same-class final node e = absurd (omega (arith, e))
 same-class final final e = refl
 
-node-rank : (c : Class) → isNode c ≡ true → rank c ≡ 0
-node-rank node e = refl
-node-rank final e = absurd (false≢true e)
-
-final-rank : (c : Class) → isNode c ≡ false → rank c ≡ 1
-final-rank node e = absurd (true≢false e)
-final-rank final e = refl
+nodes-rank-first : (c d : Class) → isNode c ≡ true → isNode d ≡ false → rank c < rank d
+nodes-rank-first node node e f = absurd (true≢false f)
+nodes-rank-first node final e f = omega arith
+nodes-rank-first final d e f = absurd (false≢true e)
 
 item-oneway : (x y : Item) → beforeItem x y ≡ true → beforeItem y x ≡ false
 item-oneway x y h = grind (arith, tells)
@@ -36,7 +32,7 @@ item-nearest : (x y : Item) → x .distance < y .distance → beforeItem x y ≡
 item-nearest x y i = grind (arith, tells)
 
 item-nodes : (x y : Item) → isNode (x .class) ≡ true → isNode (y .class) ≡ false → x .distance ≤ y .distance → beforeItem x y ≡ true
-item-nodes x y h k i = let r = node-rank (x .class) h in let q = final-rank (y .class) k in grind (arith, tells)
+item-nodes x y h k i = let r = nodes-rank-first (x .class) (y .class) h k in grind (arith, tells)
 
 item-same : (x y : Item) → beforeItem x y ≡ false → beforeItem y x ≡ false → x ≡ y
 item-same x y h k =

@@ -1,7 +1,7 @@
 -- The law stands for every list of turns.
 use mathlib.Core.Path.{_≡_, refl, sym, ap, subst, _∙_}
-use mathlib.Core.Bool.{Bool, true, false, cond}
-use Prim.Native.Nat.{ℕ, _+_, _≤_, _<_, max}
+use mathlib.Core.Bool.{false}
+use Prim.Native.Nat.{ℕ, _≤_, _<_}
 use native.Mathlib.Omega.{arith}
 use lib.Dec.{leb}
 use Rattle.std.specs.declared.option.Option.{Option}
@@ -13,11 +13,11 @@ use Rattle.std.proofs.shelf.Lists.{append-nil, append-assoc, append-cancel-left
 use Rattle.search.specs.declared.turn.Call.{Call}
 use Rattle.search.specs.declared.turn.Call.the-variants.{Next, Report}
 use Rattle.search.specs.declared.turn.Turn.{Turn}
-use Rattle.search.specs.Tree.{Tree, below, nodes, finals, ranking}
-use Rattle.search.specs.Answer.{Answer, none, told, counts, openedIn, rowIn, rowsIn}
+use Rattle.search.specs.Tree.{Tree, nodes, finals}
+use Rattle.search.specs.Answer.{Answer, none, told, counts, rowIn, rowsIn}
 use Rattle.search.specs.Turns.{answersFrom, standingAfter}
 use Rattle.search.specs.Search.{Standing, start, turned, answers}
-use Rattle.search.specs.Law.{Space, Exchange, exchanges, rowsTold, reach, greater, reached, openedBy, Fits, AllFit, Unlimited, Obeys, firstWithin}
+use Rattle.search.specs.Law.{Exchange, exchanges, rowsTold, reach, greater, reached, openedBy, Fits, AllFit, Unlimited, firstWithin}
 use Rattle.search.specs.Lawful.{spaceOf, Lawful, NearestIsTold}
 use Rattle.search.proofs.Lists.{all-right}
 use Rattle.search.proofs.Waiting.{all-sorted}

@@ -3,8 +3,11 @@ pub mod Waiting
 pub mod Tree
 pub mod Glances
 pub mod Turns
+pub mod Room
 pub mod Search
 pub mod Law
 pub mod Item
-pub mod Room
+pub mod Ranking
+pub mod Follows
 pub mod Carried
+pub mod Example

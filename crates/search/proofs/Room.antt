@@ -1,6 +1,6 @@
 -- A search never holds more than its tree: what is told, opened and waiting, with all below it, is the tree.
-use mathlib.Core.Path.{_≡_, refl, sym, ap, subst, _∙_}
-use mathlib.Core.Bool.{Bool, true, false, cond}
+use mathlib.Core.Path.{_≡_, ap}
+use mathlib.Core.Bool.{true, false, cond}
 use Prim.Native.Nat.{ℕ, _+_, _-_, _≤_, _<_}
 use native.Mathlib.Omega.{arith}
 use lib.Dec.{leb}
@@ -10,11 +10,10 @@ use Rattle.std.proofs.shelf.Sums.{length-kept-by}
 use Rattle.search.specs.declared.turn.Call.{Call}
 use Rattle.search.specs.declared.turn.Call.the-variants.{Next, Report}
 use Rattle.search.specs.declared.turn.Turn.{Turn}
-use Rattle.search.specs.Waiting.{inserts}
 use Rattle.search.specs.Tree.{Tree, below, nodes}
 use Rattle.search.specs.Answer.{Answer, none, told}
-use Rattle.search.specs.Glances.{Glance, done, on, onward, follow, finish}
-use Rattle.search.specs.Search.{Standing, start, tellFirst, openFirst, glanceAt, glance, next, called, turned}
+use Rattle.search.specs.Glances.{Glance, done, on, follow}
+use Rattle.search.specs.Search.{Standing, start, tellFirst, openFirst, glance, called, turned}
 use Rattle.search.proofs.Lists.{total, one, length-total, countBy-total}
 use Rattle.search.proofs.Waiting.{all-inserts, length-inserts}
 use Rattle.search.proofs.Tree.{Members, totalBelow, below-whole, final-below, total-open}
@@ -25,7 +24,7 @@ pub record Held {X : Type 0} (t : Tree X) (Member : X → Type 0) (s : Standing 
   pub nodes : s .opened + totalBelow t (λ z. one (t .opens z)) (s .waiting) ≡ length (nodes t)
   pub things : s .told + s .opened + totalBelow t (λ _. 1) (s .waiting) ≡ length (below t (t .root))
 
-abbrev stand : {X : Type 0} → List X → ℕ → ℕ → Standing X
+abbrev pub stand : {X : Type 0} → List X → ℕ → ℕ → Standing X
 stand w n k = record { waiting = w; opened = n; told = k }
 
 module _ {X : Type 0} (t : Tree X) (Member : X → Type 0) (m : Members t Member) where

@@ -2,28 +2,28 @@
 use mathlib.Core.Path.{_≡_, refl, sym, ap, subst, _∙_}
 use mathlib.Core.Bool.{Bool, true, false, cond, not}
 use mathlib.Core.Logic.{_⊎_, inl, inr, ⊎-elim}
-use Prim.Native.Nat.{ℕ, zero, suc, _+_, _-_, _≤_, _<_, max}
+use Prim.Native.Nat.{ℕ, zero, suc, _+_, _-_, _≤_, _<_}
 use native.Mathlib.Omega.{arith}
 use lib.Dec.{leb}
 use Rattle.std.specs.declared.option.Option.{Option}
 use Rattle.std.specs.declared.option.Option.the-variants.{Some, None}
-use Rattle.std.specs.shelf.Lists.{List, [], _∷_, _++_, map, length, All, kept-by, countBy, joined}
+use Rattle.std.specs.shelf.Lists.{List, [], _∷_, _++_, map, length, All, kept-by, joined}
 use Rattle.std.proofs.shelf.Tests.{cond-both, cases-bool, cases-lt, both-ways, leb-true, leb-false, le-leb, lt-leb}
-use Rattle.std.proofs.shelf.Elements.{all-weaker, all-append, all-kept-by, kept-by-passes}
-use Rattle.std.proofs.shelf.Lists.{append-nil, length-push, length-append}
-use Rattle.std.proofs.shelf.Sums.{length-kept-by}
+use Rattle.std.proofs.shelf.Elements.{all-weaker, all-append, all-kept-by}
+use Rattle.std.proofs.shelf.Lists.{append-nil, length-push}
 use Rattle.search.specs.declared.turn.Call.{Call}
 use Rattle.search.specs.declared.turn.Call.the-variants.{Next, Report}
-use Rattle.search.specs.Waiting.{inserts, sorted}
+use Rattle.search.specs.Waiting.{inserts}
 use Rattle.search.specs.Tree.{Tree, below, nodes, finals, ranking}
 use Rattle.search.specs.Answer.{Answer, none, told, counts, openedIn, rowsIn}
-use Rattle.search.specs.Glances.{Glance, done, on, onward, follow, finish}
-use Rattle.search.specs.Search.{Standing, start, openFirst, tellFirst, glanceAt, glance, next, called}
+use Rattle.search.specs.Glances.{Glance, done, on, onward, follow}
+use Rattle.search.specs.Search.{Standing, start, openFirst, tellFirst, glanceAt, glance, called}
 use Rattle.search.specs.Law.{reach, greater, openedBy}
 use Rattle.search.proofs.Lists.{total, Alike, one, total-append, total-joined, total-map, total-none, total-each, total-same, total-kept, length-total, countBy-total, all-both, all-every}
 use Rattle.search.proofs.Waiting.{Rising, all-inserts, rising-inserts, rising-sorted, rising-append, sorted-alike, all-sorted, one-order}
-use Rattle.search.proofs.Tree.{Members, Ordered, Below, totalBelow, pending, below-weaker, below-both, all-pending, totalBelow-none, below-whole, all-below, members-below, outward-below, final-below, below-open, total-open}
+use Rattle.search.proofs.Tree.{Members, Ordered, Below, totalBelow, pending, below-weaker, below-both, all-pending, totalBelow-none, all-below, members-below, outward-below, final-below, below-open, total-open}
 use Rattle.search.proofs.Glances.{Ends, ends-finish}
+use Rattle.search.proofs.Room.{stand}
 
 abbrev pub Within : Option ℕ → ℕ → Type 0
 Within None d = ⊥
@@ -91,9 +91,6 @@ pub record After {X : Type 0} (t : Tree X) (Member : X → Type 0) (rows : List 
   pub at : Between t Member (rows ++ rowsIn (q ∷ [])) (greater g (reach (t .distance) c q)) os s
   pub count : openedIn q ≡ length os
   pub says : Says t rows c q s
-
-abbrev stand : {X : Type 0} → List X → ℕ → ℕ → Standing X
-stand w o k = record { waiting = w; opened = o; told = k }
 
 module _ {X : Type 0} (t : Tree X) (Member : X → Type 0) (m : Members t Member) (o : Ordered t Member) where
   -- the rows and what is pending are the ranking

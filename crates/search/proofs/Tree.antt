@@ -1,9 +1,9 @@
 -- The walk down a tree, and what stands in and below a list of things as one of them is opened.
 use mathlib.Core.Path.{_≡_, refl, sym, ap, subst, _∙_}
-use mathlib.Core.Bool.{Bool, true, false, cond, not}
+use mathlib.Core.Bool.{Bool, true, false, not}
 use Prim.Native.Nat.{ℕ, zero, suc, _+_, _≤_, _<_}
 use native.Mathlib.Omega.{arith}
-use Rattle.std.specs.shelf.Lists.{List, [], _∷_, _++_, map, length, All, kept-by, joined}
+use Rattle.std.specs.shelf.Lists.{List, [], _∷_, All, kept-by, joined}
 use Rattle.std.proofs.shelf.Tests.{not-true}
 use Rattle.std.proofs.shelf.Elements.{all-weaker, all-kept-by, kept-by-passes}
 use Rattle.search.specs.Waiting.{inserts, sorted}

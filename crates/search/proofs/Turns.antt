@@ -1,6 +1,6 @@
 -- Lists of turns: one list after another, and two that answer turns and keep step.
 use mathlib.Core.Path.{_≡_, refl, ap, _∙_}
-use Prim.Native.Nat.{ℕ, suc}
+use Prim.Native.Nat.{suc}
 use Rattle.std.specs.shelf.Lists.{List, [], _∷_, _++_, map, length}
 use Rattle.search.specs.Turns.{answersFrom, standingAfter}
 

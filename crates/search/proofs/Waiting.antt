@@ -1,11 +1,11 @@
 -- Lists in order: what an insertion keeps, and that things that stand in order can stand in one order only.
 use mathlib.Core.Path.{_≡_, refl, sym, ap, subst, _∙_}
 use mathlib.Core.Bool.{Bool, true, false, cond, not}
-use mathlib.Core.Logic.{_⊎_, inl, inr, ⊎-elim}
+use mathlib.Core.Logic.{⊎-elim}
 use Prim.Native.Nat.{ℕ, _+_}
 use native.Mathlib.Omega.{arith}
 use Rattle.std.specs.shelf.Lists.{List, [], _∷_, _++_, map, length, All}
-use Rattle.std.proofs.shelf.Tests.{cond-both, cond-false, cases-bool, both-ways, not-false, not-from-true}
+use Rattle.std.proofs.shelf.Tests.{cond-both, cond-false, cases-bool, both-ways}
 use Rattle.std.proofs.shelf.Elements.{all-weaker, all-append}
 use Rattle.std.proofs.shelf.Lists.{append-nil, append-assoc}
 use Rattle.search.specs.Waiting.{insert, inserts, sorted}

@@ -10,11 +10,13 @@ pub data Answer (R : Type 0) : Type 0 where
   told : R → ℕ → Answer R
   counts : ℕ → ℕ → Answer R
 
+-- the count of nodes opened that it carries
 abbrev pub openedIn : {R : Type 0} → Answer R → ℕ
 openedIn (none o) = o
 openedIn (told r o) = o
 openedIn (counts n o) = o
 
+-- the row that it tells, if it does
 abbrev pub rowIn : {R : Type 0} → Answer R → Option R
 rowIn (none o) = None
 rowIn (told r o) = Some r

@@ -1,4 +1,4 @@
--- Items, the things of which the law is stated: a distance, a class and a number.
+-- Items, the things of which the law is stated: they have a distance, a class and a number.
 use mathlib.Core.Bool.{Bool, true, false, _&&_, _||_}
 use Prim.Native.Nat.{ℕ, _≤_}
 use lib.Dec.{ltb, eqb}
@@ -6,6 +6,7 @@ use Rattle.std.specs.shelf.Lists.{List, All}
 use Rattle.search.specs.Tree.{Tree, below, finals, Sound}
 use Rattle.search.specs.Lawful.{Lawful, NearestIsTold}
 
+-- to be opened, or to be told
 pub data Class : Type 0 where
   node : Class
   final : Class
@@ -32,7 +33,7 @@ beforeItem x y =
 abbrev pub itemTree : (Item → List Item) → (Item → ℕ) → Item → Tree Item
 itemTree kids height root = record { distance = λ x. x .distance; opens = λ x. isNode (x .class); before = beforeItem; kids = kids; height = height; root = root }
 
--- for every tree that is sound from its root down, and a limit that none of its finals is beyond
+-- for every tree that is sound from its root down, and every limit that none of its finals is beyond
 abbrev pub SearchIsLawful : Type 0
 SearchIsLawful = (kids : Item → List Item) (height : Item → ℕ) (root : Item) → All (Sound (itemTree kids height root)) (below (itemTree kids height root) root) →
     (unlimited : ℕ) → All (λ x. x .distance ≤ unlimited) (finals (itemTree kids height root)) → Lawful (itemTree kids height root) unlimited

@@ -11,8 +11,8 @@ use Rattle.search.specs.declared.turn.Call.the-variants.{Next, Report}
 use Rattle.search.specs.declared.turn.Turn.{Turn}
 use Rattle.search.specs.Answer.{Answer, none, told, counts, openedIn, rowIn, rowsIn}
 
--- What is searched: all rows there are, in the order in which they are due, with their distances; the distances of all nodes; and a limit
--- that no row is beyond.
+-- What is searched: how far each row is, all rows in the order in which they are due, how far each node is, and a limit that no row is
+-- beyond.
 pub record Space (R : Type 0) : Type 0 where
   pub distance : R → ℕ
   pub ranking : List R
@@ -28,6 +28,7 @@ exchanges [] qs = []
 exchanges (u ∷ us) [] = []
 exchanges (u ∷ us) (q ∷ qs) = (u, q) ∷ exchanges us qs
 
+-- the rows told, in order
 abbrev pub rowsTold : {R : Type 0} → List (Exchange R) → List R
 rowsTold es = rowsIn (map (λ e. e .1) es)
 
@@ -53,7 +54,7 @@ abbrev pub openedBy : List ℕ → Option ℕ → ℕ
 openedBy nodes None = 0
 openedBy nodes (Some g) = countBy (λ d. leb d g) nodes
 
--- Is this an answer to the call, after these rows? A row is within the limit; none, if each row within the limit was told already.
+-- What the answer to a call must be, after these rows: a row is within the limit; at none, each row within the limit was told before.
 abbrev pub Fits : {R : Type 0} → Space R → List R → Call → Answer R → Type 0
 Fits p rows (Next limit) (none o) = All (λ r. p .distance r ≤ limit → Has rows r) (p .ranking)
 Fits p rows (Next limit) (told r o) = p .distance r ≤ limit
@@ -62,7 +63,8 @@ Fits p rows Report (none o) = ⊥
 Fits p rows Report (told r o) = ⊥
 Fits p rows Report (counts n o) = n ≡ length rows
 
--- each of these exchanges, with those before it
+-- Each exchange, after those before it, is an answer to its call, and the count opened is that of all nodes no farther than the search has
+-- come with this answer.
 abbrev pub AllFit : {R : Type 0} → Space R → List (Exchange R) → List (Exchange R) → Type 0
 AllFit p earlier [] = Unit {0}
 AllFit p earlier (e ∷ later) =
@@ -71,16 +73,16 @@ AllFit p earlier (e ∷ later) =
 abbrev pub Unlimited : {R : Type 0} → Space R → Turn → Type 0
 Unlimited p u = u .call ≡ Next (p .unlimited)
 
--- What must hold of turns and what they were answered. `answers` are the answers to any other list of turns that begins at the same start.
-pub record Obeys {R : Type 0} (p : Space R) (answers : List Turn → List (Answer R)) (us : List Turn) (qs : List (Answer R)) : Type 0 where
-  pub each : length qs ≡ length us
+-- What must hold of turns and what they were answered; `answers` gives the answers to any list of turns from the same start.
+pub record Obeys {R : Type 0} (p : Space R) (answers : List Turn → List (Answer R)) (turns : List Turn) (qs : List (Answer R)) : Type 0 where
+  -- one answer to a turn
+  pub each : length qs ≡ length turns
   -- the rows told begin the ranking
   pub ranked : (rest : List R) × (rowsIn qs ++ rest ≡ p .ranking)
-  -- each answer fits its call, and each count opened is that of the nodes within reach
-  pub fit : AllFit p [] (exchanges us qs)
-  -- as many further turns without limit as rows are left tell just these, and no turn after that tells any
+  pub fit : AllFit p [] (exchanges turns qs)
+  -- as many further turns without limit as rows are left tell just these, one each, and no turn after them tells any
   pub complete : (rest : List R) → rowsIn qs ++ rest ≡ p .ranking → (nexts more : List Turn) → length nexts ≡ length rest → All (Unlimited p) nexts →
-      map rowIn (answers (us ++ (nexts ++ more))) ≡ map rowIn qs ++ (map Some rest ++ map (λ _. None) more)
+      map rowIn (answers (turns ++ (nexts ++ more))) ≡ map rowIn qs ++ (map Some rest ++ map (λ _. None) more)
 
 -- the first of these rows, if it is within the limit
 abbrev pub firstWithin : {R : Type 0} → (R → ℕ) → ℕ → List R → Option R

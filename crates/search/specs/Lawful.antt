@@ -13,10 +13,11 @@ use Rattle.search.specs.Law.{Space, Obeys, firstWithin}
 abbrev pub spaceOf : {X : Type 0} → Tree X → ℕ → Space X
 spaceOf t unlimited = record { distance = t .distance; ranking = ranking t; nodes = map (t .distance) (nodes t); unlimited = unlimited }
 
+-- whatever the turns
 abbrev pub Lawful : {X : Type 0} → Tree X → ℕ → Type 0
-Lawful t unlimited = (us : List Turn) → Obeys (spaceOf t unlimited) (answers t) us (answers t us)
+Lawful t unlimited = (turns : List Turn) → Obeys (spaceOf t unlimited) (answers t) turns (answers t turns)
 
 -- After any turns, `next` tells the first of the rows that are left if it is within the limit, and else none.
 abbrev pub NearestIsTold : {X : Type 0} → Tree X → Type 0
-NearestIsTold {X} t = (us : List Turn) (rest : List X) → rowsIn (answers t us) ++ rest ≡ ranking t → (u : Turn) (limit : ℕ) → u .call ≡ Next limit →
-    map rowIn (answers t (us ++ u ∷ [])) ≡ map rowIn (answers t us) ++ (firstWithin (t .distance) limit rest ∷ [])
+NearestIsTold {X} t = (turns : List Turn) (rest : List X) → rowsIn (answers t turns) ++ rest ≡ ranking t → (u : Turn) (limit : ℕ) → u .call ≡ Next limit →
+    map rowIn (answers t (turns ++ u ∷ [])) ≡ map rowIn (answers t turns) ++ (firstWithin (t .distance) limit rest ∷ [])

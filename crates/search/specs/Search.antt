@@ -1,5 +1,5 @@
 -- Best-first search of a tree: what waits, one glance at the first of it, and what turns are answered.
-use mathlib.Core.Bool.{Bool, cond}
+use mathlib.Core.Bool.{cond}
 use Prim.Native.Nat.{ℕ, _+_, _-_}
 use lib.Dec.{leb}
 use Rattle.std.specs.shelf.Lists.{List, [], _∷_, length}
@@ -22,11 +22,11 @@ pub record Standing (X : Type 0) : Type 0 where
 abbrev pub start : {X : Type 0} → X → Standing X
 start root = record { waiting = root ∷ []; opened = 0; told = 0 }
 
--- x stood first, before w, and is told
+-- the first is told; w stood behind it
 abbrev pub tellFirst : {X : Type 0} → Standing X → List X → Standing X
 tellFirst s w = record { waiting = w; opened = s .opened; told = s .told + 1 }
 
--- x stood first, before w, and is opened: its kids come to wait
+-- the first, x, is opened: its kids come to wait; w stood behind it
 abbrev pub openFirst : {X : Type 0} → Tree X → Standing X → X → List X → Standing X
 openFirst t s x w = record { waiting = inserts (t .before) (t .kids x) w; opened = s .opened + 1; told = s .told }
 
@@ -52,4 +52,4 @@ turned t s u = called t s (u .call)
 
 -- what a search just begun answers
 abbrev pub answers : {X : Type 0} → Tree X → List Turn → List (Answer X)
-answers t us = answersFrom (turned t) (start (t .root)) us
+answers t turns = answersFrom (turned t) (start (t .root)) turns

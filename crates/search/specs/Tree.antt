@@ -29,7 +29,7 @@ nodes t = kept-by (t .opens) (below t (t .root))
 abbrev pub finals : {X : Type 0} → Tree X → List X
 finals t = kept-by (λ x. not (t .opens x)) (below t (t .root))
 
--- every final, nearest first
+-- every final in its order, which is nearest first
 abbrev pub ranking : {X : Type 0} → Tree X → List X
 ranking t = sorted (t .before) (finals t)
 
