@@ -1,0 +1,7 @@
+pub mod Fronts
+pub mod Moves
+pub mod Orders
+pub mod Outcomes
+pub mod Queues
+pub mod Sorting
+pub mod Vacancies
