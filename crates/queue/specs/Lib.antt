@@ -1,0 +1,4 @@
+pub mod Heap
+pub mod Order
+pub mod Sorted
+pub mod Vacancy
