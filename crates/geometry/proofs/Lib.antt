@@ -1,2 +1,3 @@
 pub mod Spans
 pub mod Gaps
+pub mod Containing

@@ -4,3 +4,4 @@ pub mod Within
 pub mod Gap
 pub mod Distance
 pub mod Nearest
+pub mod Contains

@@ -1,0 +1,6 @@
+pub mod Belows
+pub mod Bits
+pub mod Sounds
+pub mod Naming
+pub mod Faults
+pub mod Scans
