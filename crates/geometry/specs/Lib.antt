@@ -5,3 +5,4 @@ pub mod Gap
 pub mod Distance
 pub mod Nearest
 pub mod Contains
+pub mod Choice

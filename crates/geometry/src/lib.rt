@@ -2,6 +2,7 @@
 
 pub mod bounds;
 pub mod chessboard;
+pub mod choice;
 pub mod contains;
 pub mod euclidean;
 pub mod gap;
