@@ -3,13 +3,13 @@ use Prim.Native.Nat.{ℕ, zero, suc, _+_, _-_, min, _≤_, _<_}
 use mathlib.Core.Path.{_≡_, refl, sym, ap, _∙_}
 use mathlib.Core.Bool.{Bool, true, false, _&&_}
 use mathlib.Core.Logic.{_⊎_, inl, inr}
-use mathlib.Core.List.{List, [], _∷_, map}
+use mathlib.Core.List.{List, [], _∷_, _++_, map}
 use native.Mathlib.Omega.{arith}
 use lib.Dec.{eqb, leb, ltb}
 use lib.ListN.{length, getD, take, drop, length-map, length-take, length-drop}
 use lib.Seq.{getD-take, getD-drop}
 use Rattle.std.proofs.shelf.Lists.{getD-map, getD-past, getD-read}
-use Rattle.std.proofs.shelf.Tests.{and-parts, cases-lt}
+use Rattle.std.proofs.shelf.Tests.{and-parts, and-from, and-left, and-right, cases-lt, le-leb, lt-leb, eq-eqb, ne-eqb}
 use Rattle.std.proofs.shelf.Ways.{tells}
 use Rattle.book.specs.Model.{Node, Model, BookShape, noNode, nodeCount}
 use Rattle.book.specs.Model as model
@@ -123,3 +123,24 @@ shape rs ps ks a b c l t =
       places-most = few ps rs w;
       targets-fit = fit-node ps t rs;
     }
+
+pub limits-next : (r : NodeRecord) (rs : List NodeRecord) → r .level ≤ 7 → r .places ≤ 16 → withinLimits (r ∷ rs) ≡ withinLimits rs
+limits-next r rs a b = ap (λ (t : Bool). t && withinLimits rs) (and-from (leb (r .level) 7) (leb (r .places) 16) (le-leb (r .level) 7 a) (le-leb (r .places) 16 b))
+
+pub limits-level : (r : NodeRecord) (rs : List NodeRecord) → 7 < r .level → withinLimits (r ∷ rs) ≡ false
+limits-level r rs a = ap (λ (t : Bool). (t && leb (r .places) 16) && withinLimits rs) (lt-leb (r .level) 7 a)
+
+pub limits-places : (r : NodeRecord) (rs : List NodeRecord) → 16 < r .places → withinLimits (r ∷ rs) ≡ false
+limits-places r rs a = and-left (leb (r .level) 7 && leb (r .places) 16) (withinLimits rs) (and-right (leb (r .level) 7) (leb (r .places) 16) (lt-leb (r .places) 16 a))
+
+pub firsts-next : (e : ℕ) (r : NodeRecord) (rs : List NodeRecord) → r .first ≡ e → firstsAddUp e (r ∷ rs) ≡ firstsAddUp (e + r .places) rs
+firsts-next e r rs h = ap (λ (t : Bool). t && firstsAddUp (e + r .places) rs) (eq-eqb (r .first) e h)
+
+pub firsts-stop : (e : ℕ) (r : NodeRecord) (rs : List NodeRecord) → (r .first ≡ e → ⊥) → firstsAddUp e (r ∷ rs) ≡ false
+firsts-stop e r rs h = ap (λ (t : Bool). t && firstsAddUp (e + r .places) rs) (ne-eqb (r .first) e h)
+
+pub fits-push : (ps : List Place) (p : Place) → targetsFit ps ≡ true → targetFits p ≡ true → targetsFit (ps ++ p ∷ []) ≡ true
+fits-push [] p h f = and-from (targetFits p) true f refl
+fits-push (q ∷ ps) p h f =
+    let t = and-parts (targetFits q) (targetsFit ps) h in
+    and-from (targetFits q) (targetsFit (ps ++ p ∷ [])) (t .0) (fits-push ps p (t .1) f)

@@ -49,7 +49,7 @@ abbrev pub allKinds : List ℕ → Bool
 allKinds [] = true
 allKinds (b ∷ bs) = isSome (kindWith b) && allKinds bs
 
-abbrev withKind : Option Kind → List Kind → List Kind
+abbrev pub withKind : Option Kind → List Kind → List Kind
 withKind (Some kind) kinds = kind ∷ kinds
 withKind None kinds = kinds
 

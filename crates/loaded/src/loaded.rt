@@ -11,6 +11,7 @@ use book::kind::Kind;
 use book::place::Place;
 
 mod empty;
+mod load;
 mod questions;
 
 pub use questions::LoadedBook;
