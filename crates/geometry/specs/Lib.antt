@@ -1,6 +1,9 @@
 pub mod Range
 pub mod Bounds
 pub mod Within
+pub mod Ends
 pub mod Gap
 pub mod Distance
 pub mod Nearest
+pub mod Moved
+pub mod Around

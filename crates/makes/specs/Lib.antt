@@ -1,0 +1,4 @@
+pub mod Tested
+pub mod Places
+pub mod Offset
+pub mod Shift
