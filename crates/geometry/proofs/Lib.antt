@@ -1,5 +1,5 @@
 pub mod Spans
 pub mod Gaps
 pub mod Moves
-pub mod Arounds
 pub mod Boxes
+pub mod Arounds

@@ -1,5 +1,5 @@
 -- Amounts as the code holds them, and what two of them make.
-use mathlib.Core.Bool.{Bool, true, false, _&&_, false≢true}
+use mathlib.Core.Bool.{Bool, true, false}
 use mathlib.Core.Path.{_≡_, refl, sym, _∙_, ap}
 use lib.IntN.{ℤ, pos, negℤ, _+ℤ_, _-ℤ_}
 use lib.Signed.{_≤ℤ_, leZ}
@@ -7,6 +7,7 @@ use mir.Syntax.{w32}
 use mir.Val.{toZ, ofZ}
 use native.Mathlib.Omega.{arith}
 use Rattle.std.proofs.shelf.Signed.{ints}
+use Rattle.std.proofs.shelf.Tests.{and-parts, and-from}
 use Rattle.std.specs.declared.result.Result.{Result}
 use Rattle.std.specs.declared.result.Result.the-variants.{Ok, Err}
 use Rattle.refusal.specs.Told.{Told, plain, answered, typingTold}
@@ -27,23 +28,19 @@ use Rattle.makes.proofs.Shifts.{shift-twice}
 abbrev held : ℤ → ℤ
 held x = toZ w32 (ofZ w32 x)
 
-and-both : (a b : Bool) → (a && b) ≡ true → (a ≡ true) × (b ≡ true)
-and-both true b e = (refl, e)
-and-both false b e = absurd (false≢true e)
-
 abbrev InRange : ℤ → Type 0
 InRange x = (leastCoordinate ≤ℤ x) × (x ≤ℤ mostCoordinate)
 
 in-range : (x : ℤ) → inRange x ≡ true → InRange x
-in-range x e = let b = and-both (leZ leastCoordinate x) (leZ x mostCoordinate) e in (grind (arith, ints), grind (arith, ints))
+in-range x e = let b = and-parts (leZ leastCoordinate x) (leZ x mostCoordinate) e in (grind (arith, ints), grind (arith, ints))
 
 is-range : (x : ℤ) → InRange x → inRange x ≡ true
 is-range x h = grind (arith, ints)
 
 pub ranges : (p : Point) → pointInRange p ≡ true → InRange (p .easting) × InRange (p .northing) × InRange (p .level)
 ranges p e =
-    let a = and-both (inRange (p .easting)) _ e in
-    let b = and-both (inRange (p .northing)) (inRange (p .level)) (a .1) in
+    let a = and-parts (inRange (p .easting)) _ e in
+    let b = and-parts (inRange (p .northing)) (inRange (p .level)) (a .1) in
     (in-range (p .easting) (a .0), in-range (p .northing) (b .0), in-range (p .level) (b .1))
 
 -- what the code makes of the opposite amounts
@@ -66,13 +63,10 @@ turned-is o =
 opposite-in : (x : ℤ) → InRange x → inRange (negℤ x) ≡ true
 opposite-in x h = is-range (negℤ x) (omega (arith, ints), omega (arith, ints))
 
-all-three : (a b c : Bool) → a ≡ true → b ≡ true → c ≡ true → (a && (b && c)) ≡ true
-all-three a b c p q r = cc
-
 pub opposite-tested : (o : Offset) → pointInRange (opposite (o .by)) ≡ true
 opposite-tested o =
     let r = ranges (o .by) (o .tested) in
-    all-three _ _ _ (opposite-in (o .by .easting) (r .0)) (opposite-in (o .by .northing) (r .1)) (opposite-in (o .by .level) (r .2))
+    and-from _ _ (opposite-in (o .by .easting) (r .0)) (and-from _ _ (opposite-in (o .by .northing) (r .1)) (opposite-in (o .by .level) (r .2)))
 
 -- what the code makes of two amounts
 abbrev added : Point → Point → Point
