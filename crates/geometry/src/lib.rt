@@ -1,5 +1,6 @@
 //! Coordinates, bounding boxes that cannot be wrong, and how near two boxes are.
 
+pub mod around;
 pub mod bounds;
 pub mod chessboard;
 pub mod choice;
@@ -8,3 +9,4 @@ pub mod euclidean;
 pub mod gap;
 pub mod manhattan;
 pub mod measure;
+pub mod moved;
