@@ -141,7 +141,7 @@ module _ (m : Model) (acc : Accepted m) where
   entry-at : (n i : ℕ) → i < placeCount m n → (e : Entry) × Stands m n i e
   entry-at n i l = let r = acc .filled n i l in (r .0, r .1)
 
-  names-in : (n i : ℕ) (t : Target) → Names m n i t → InBook m t
+  pub names-in : (n i : ℕ) (t : Target) → Names m n i t → InBook m t
   names-in n i t h =
       let r = acc .filled n i (place-there m n i (h .0) (h .1)) in
       subst (InBook m) (ap (targetOf m n) (same-entry m n i (r .0) (h .0) (r .1) (h .1)) ∙ h .2) (r .2)
