@@ -1,12 +1,12 @@
 -- A sum over a list of which at most one element counts.
-use Prim.Native.Nat.{ℕ, zero, suc, _+_, _<_, _≤_}
-use mathlib.Core.Path.{_≡_, refl, ap, sym, _∙_}
+use Prim.Native.Nat.{ℕ, suc, _<_, _≤_}
+use mathlib.Core.Path.{_≡_, refl, ap}
 use mathlib.Core.Bool.{Bool, true, false, cond}
-use mathlib.Core.Logic.{_⊎_, inl, inr, ⊎-elim}
+use mathlib.Core.Logic.{_⊎_, ⊎-elim}
 use native.Mathlib.Omega.{arith}
-use Rattle.std.specs.shelf.Lists.{List, [], _∷_, _++_, length, getD, joined, sumBy, countBy}
-use Rattle.std.proofs.shelf.Tests.{cases-lt, cases-bool}
-use Rattle.std.proofs.shelf.Sums.{sumBy-cons, sumBy-append, getD-le-sumBy}
+use Rattle.std.specs.shelf.Lists.{List, [], _∷_, length, getD, joined, sumBy}
+use Rattle.std.proofs.shelf.Tests.{cases-lt}
+use Rattle.std.proofs.shelf.Sums.{sumBy-cons, sumBy-append}
 
 module _ {X : Type 0} (f : X → ℕ) (d : X) where
   pub sum-zero : (xs : List X) → ((i : ℕ) → i < length xs → f (getD xs i d) ≡ 0) → sumBy f xs ≡ 0

@@ -1,30 +1,30 @@
 -- An accepted book is a tree.
-use Prim.Native.Nat.{ℕ, zero, suc, _+_, _-_, _<_, _≤_}
+use Prim.Native.Nat.{ℕ, _+_, _-_, _<_, _≤_}
 use mathlib.Core.Path.{_≡_, refl, ap, sym, subst, _∙_}
 use mathlib.Core.Bool.{Bool, true, false, cond}
 use mathlib.Core.Logic.{_⊎_, inl, inr, ⊎-elim}
 use native.Mathlib.Omega.{arith}
 use lib.Dec.{eqb}
 use Rattle.std.specs.shelf.Lists.{List, [], _∷_, All, joined, sumBy, countBy}
-use Rattle.std.proofs.shelf.Tests.{false≢true, both-ways, eqb-true, eqb-false, eq-eqb, ne-eqb, cases-eq, cases-lt}
+use Rattle.std.proofs.shelf.Tests.{false≢true, eqb-true, eq-eqb, ne-eqb, cases-eq, cases-lt}
 use Rattle.std.proofs.shelf.Elements.{all-from-getD}
 use Rattle.std.proofs.shelf.Sums.{sumBy-cons, getD-le-sumBy}
 use Rattle.std.specs.declared.result.Result.{Result}
 use Rattle.std.specs.declared.result.Result.the-variants.{Ok}
 use Rattle.refusal.specs.Told.{answered, treeTold}
 use Rattle.refusal.specs.declared.hands.TreeFault.{TreeFault}
-use Rattle.book.specs.Model.{Model, Node, noNode, nodeOf, nodeCount, pickLimit, levelOf, placesOf, placeCount, placeOf}
+use Rattle.book.specs.Model.{Model, Node, noNode, nodeOf, nodeCount, levelOf, placesOf, placeOf}
 use Rattle.book.specs.declared.place.Entry.{Entry}
 use Rattle.book.specs.declared.place.Place.{Place}
 use Rattle.book.specs.declared.place.Place.the-variants.{Filled, Spoilt}
-use Rattle.check.specs.Targets.{targetAt, targetOf, rootOf}
-use Rattle.check.specs.Accepted.{Stands, Names, InBook, Accepted}
+use Rattle.check.specs.Targets.{targetOf, rootOf}
+use Rattle.check.specs.Accepted.{Stands, Names, Accepted}
 use Rattle.check.specs.Checked.{checked}
-use Rattle.check.specs.Tree.{targetsIn, picksIn, childrenIn, times, Tree}
+use Rattle.check.specs.Tree.{targetsIn, childrenIn, times, Tree}
 use Rattle.check.specs.declared.target.Target.{Target}
 use Rattle.check.specs.declared.target.Target.the-variants.{Pick, Child}
 use Rattle.check.proofs.Naming.{place-there, node-there}
-use Rattle.check.proofs.Singles.{sum-zero, sum-found, sum-single, sum-joined, counts, counted, count-one}
+use Rattle.check.proofs.Singles.{sum-found, sum-single, sum-joined, counts, counted, count-one}
 use Rattle.check.proofs.Meaning.{one-place, child-at, names-in, answer-exactly}
 
 -- ---- what an entry of a node names
