@@ -1,7 +1,7 @@
 -- The first fault of a book, part by part.
-use Prim.Native.Nat.{ℕ, _+_, _<_, _≤_}
+use Prim.Native.Nat.{ℕ, _<_, _≤_}
 use mathlib.Core.Path.{_≡_, refl, ap, sym, _∙_}
-use mathlib.Core.Bool.{Bool, true, false, not, cond, _&&_}
+use mathlib.Core.Bool.{Bool, true, false, _&&_}
 use mathlib.Core.List.{[], _∷_}
 use mathlib.Core.Logic.{_⊎_, inl, inr, ⊎-elim}
 use native.Mathlib.Omega.{arith}
@@ -16,12 +16,11 @@ use Rattle.book.specs.Model.{Model, nodeCount, placeCount}
 use Rattle.check.specs.Below.{orElse, firstOf, firstBelow}
 use Rattle.check.specs.Targets.{rootOf}
 use Rattle.check.specs.Totals.{totalPlaces}
-use Rattle.check.specs.Names.{namedBefore, isNamed, picksNamed}
+use Rattle.check.specs.Names.{namedBefore, picksNamed}
 use Rattle.check.specs.Sound.{when, unless, soundTarget}
 use Rattle.check.specs.Checked.{crowded, barren, twice, placeFault, nodeFault, unnamed, treeFault, checked}
 use Rattle.check.specs.declared.target.Target.{Target}
-use Rattle.check.specs.declared.target.Target.the-variants.{Pick, Child}
-use Rattle.check.proofs.Belows.{else-parts, first-none, first-no, first-at, first-more}
+use Rattle.check.proofs.Belows.{else-parts, first-none, first-at}
 
 -- a test gives no fault exactly if it fails
 pub when-none : (b : Bool) (f : Told) → when b f ≡ None → b ≡ false

@@ -5,3 +5,6 @@ pub mod Naming
 pub mod Faults
 pub mod Scans
 pub mod Meaning
+pub mod Singles
+pub mod Trees
+pub mod Examples

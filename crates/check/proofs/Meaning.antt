@@ -1,15 +1,14 @@
 -- A book has no fault exactly if it is accepted in the sense of `Accepted`.
-use Prim.Native.Nat.{ℕ, _+_, _-_, _<_, _≤_}
+use Prim.Native.Nat.{ℕ, _+_, _-_, _<_}
 use mathlib.Core.Path.{_≡_, refl, ap, sym, subst, _∙_}
-use mathlib.Core.Bool.{Bool, true, false, not}
+use mathlib.Core.Bool.{true, false, not}
 use mathlib.Core.Logic.{_⊎_, inl, inr, ⊎-elim}
 use native.Mathlib.Omega.{arith}
-use lib.Dec.{eqb}
-use Rattle.std.specs.declared.option.Option.the-variants.{Some, None}
+use Rattle.std.specs.declared.option.Option.the-variants.{None}
 use Rattle.std.specs.declared.result.Result.{Result}
 use Rattle.std.specs.declared.result.Result.the-variants.{Ok, Err}
 use Rattle.std.proofs.shelf.Tests.{both-ways, not-false, not-from-true, ltb-true, lt-ltb, eqb-true, eq-eqb, cases-bool, cases-lt, cases-order}
-use Rattle.refusal.specs.Told.{Told, atNode, answered, treeTold}
+use Rattle.refusal.specs.Told.{atNode, answered, treeTold}
 use Rattle.refusal.specs.declared.hands.TreeFault.{TreeFault}
 use Rattle.geometry.specs.Contains.{contains}
 use Rattle.geometry.specs.Within.{Within}
@@ -17,12 +16,9 @@ use Rattle.geometry.specs.declared.bounds.Bounds.{Bounds}
 use Rattle.geometry.proofs.Containing.{contains-within}
 use Rattle.book.specs.Model.{Model, nodeCount, pickLimit, levelOf, placeCount, placeOf}
 use Rattle.book.specs.declared.place.Entry.{Entry}
-use Rattle.book.specs.declared.place.Place.the-variants.{Filled, Spoilt}
-use Rattle.check.specs.Below.{firstBelow, someBelow}
 use Rattle.check.specs.Targets.{targetOf, rootOf, inBook}
-use Rattle.check.specs.Totals.{totalPlaces}
 use Rattle.check.specs.Names.{namedBefore, isNamed, picksNamed}
-use Rattle.check.specs.Sound.{when, oneLower, outside, sticksOut, leavesBox}
+use Rattle.check.specs.Sound.{oneLower, outside, sticksOut, leavesBox}
 use Rattle.check.specs.Checked.{placeFault, nodeFault, unnamed, treeFault, checked}
 use Rattle.check.specs.Accepted.{Stands, Names, InBook, Parent, Accepted, Exactly}
 use Rattle.check.specs.declared.target.Target.{Target}
@@ -141,7 +137,7 @@ module _ (m : Model) (acc : Accepted m) where
   entry-at : (n i : ℕ) → i < placeCount m n → (e : Entry) × Stands m n i e
   entry-at n i l = let r = acc .filled n i l in (r .0, r .1)
 
-  names-in : (n i : ℕ) (t : Target) → Names m n i t → InBook m t
+  pub names-in : (n i : ℕ) (t : Target) → Names m n i t → InBook m t
   names-in n i t h =
       let r = acc .filled n i (place-there m n i (h .0) (h .1)) in
       subst (InBook m) (ap (targetOf m n) (same-entry m n i (r .0) (h .0) (r .1) (h .1)) ∙ h .2) (r .2)

@@ -1,19 +1,17 @@
 -- Which place names what: the tests and what they say.
-use Prim.Native.Nat.{ℕ, _+_, _<_, _≤_}
-use mathlib.Core.Path.{_≡_, refl, ap, sym, subst, _∙_}
+use Prim.Native.Nat.{ℕ, _+_, _<_}
+use mathlib.Core.Path.{_≡_, refl, ap, sym, _∙_}
 use mathlib.Core.Bool.{Bool, true, false, _||_}
 use mathlib.Core.Logic.{_⊎_, inl, inr, ⊎-elim}
 use native.Mathlib.Omega.{arith}
 use native.Mathlib.Numerals.{add-one}
-use lib.Dec.{eqb}
-use lib.ListN.{length, getD}
+use lib.ListN.{length}
 use Rattle.std.proofs.shelf.Lists.{getD-past}
-use Rattle.std.proofs.shelf.Tests.{false≢true, both-ways, cases-lt, cases-bool, eqb-true, eq-eqb, or-cases, or-left, or-right, or-parts}
-use Rattle.book.specs.Model.{Model, nodeCount, placeCount, placeOf, placesOf, nodeOf, noNode}
+use Rattle.std.proofs.shelf.Tests.{false≢true, cases-lt, eqb-true, eq-eqb, or-cases, or-left, or-right}
+use Rattle.book.specs.Model.{Model, nodeCount, placeCount, placeOf, placesOf, noNode}
 use Rattle.book.specs.declared.place.Entry.{Entry}
 use Rattle.book.specs.declared.place.Place.{Place}
 use Rattle.book.specs.declared.place.Place.the-variants.{Filled, Spoilt}
-use Rattle.check.specs.Below.{someBelow}
 use Rattle.check.specs.Targets.{targetOf, same}
 use Rattle.check.specs.Names.{namesIn, names, namedWithin, namedBelow, namedBefore, isNamed}
 use Rattle.check.specs.Accepted.{Stands, Names}

@@ -1,13 +1,12 @@
 -- What the scan knows at each turn, and what it has found when it stops.
 use Prim.Native.Nat.{ℕ, _+_, _-_, _<_, _≤_}
-use mathlib.Core.Path.{_≡_, refl, ap, sym, _∙_}
-use mathlib.Core.Bool.{Bool, true, false, not, _||_}
+use mathlib.Core.Path.{_≡_, ap, sym, _∙_}
+use mathlib.Core.Bool.{true, false, not, _||_}
 use mathlib.Core.Logic.{_⊎_, inl, inr, ⊎-elim}
 use native.Mathlib.Omega.{arith}
-use Rattle.std.specs.declared.option.Option.{Option}
 use Rattle.std.specs.declared.option.Option.the-variants.{Some, None}
 use Rattle.std.specs.declared.result.Result.the-variants.{Ok, Err}
-use Rattle.std.proofs.shelf.Tests.{ltb-true, lt-ltb, both-ways, cases-bool, cases-lt}
+use Rattle.std.proofs.shelf.Tests.{ltb-true, cases-bool}
 use Rattle.refusal.specs.Told.{Told, atNode, atPlace}
 use Rattle.book.specs.Model.{Model, BookShape, nodeCount, pickLimit, placeCount}
 use Rattle.check.specs.Below.{firstBelow, countBelow}
@@ -17,13 +16,12 @@ use Rattle.check.specs.Names.{namedBefore, isNamed, picksNamed}
 use Rattle.check.specs.Sound.{when, soundTarget}
 use Rattle.check.specs.Checked.{placeFault, nodeFault, unnamed, treeFault}
 use Rattle.check.specs.Marks.{bitOf, HasBit, firstUnnamed}
-use Rattle.check.specs.Accepted.{Names}
 use Rattle.check.specs.declared.target.Target.{Target}
 use Rattle.check.specs.declared.target.Target.the-variants.{Pick, Child}
 use Rattle.check.specs.declared.named.Named.{Named}
 use Rattle.check.proofs.Belows.{first-none, first-more, first-same}
 use Rattle.check.proofs.Bits.{count-same, count-past}
-use Rattle.check.proofs.Sounds.{Sound, sound-parts}
+use Rattle.check.proofs.Sounds.{sound-parts}
 use Rattle.check.proofs.Naming.{names-at, place-there, named-found, before-none, before-more, before-node, before-all}
 use Rattle.check.proofs.Faults.{Fertile, place-none, place-unsound, place-twice, place-parts, node-none, node-barren, node-faulty, node-parts, tree-faulty, tree-unnamed}
 

@@ -5,4 +5,5 @@ pub mod Names
 pub mod Sound
 pub mod Checked
 pub mod Accepted
+pub mod Tree
 pub mod Marks

@@ -1,7 +1,7 @@
 -- What can be wrong with one place by itself.
 use Prim.Native.Nat.{ℕ, _+_}
 use mathlib.Core.Bool.{Bool, true, false, not, cond}
-use mathlib.Core.List.{List, [], _∷_}
+use mathlib.Core.List.{[], _∷_}
 use lib.Dec.{eqb}
 use Rattle.std.specs.declared.option.Option.{Option}
 use Rattle.std.specs.declared.option.Option.the-variants.{Some, None}
@@ -11,7 +11,6 @@ use Rattle.refusal.specs.Told.{Told, atPlace}
 use Rattle.geometry.specs.Contains.{contains}
 use Rattle.geometry.specs.declared.bounds.Bounds.{Bounds}
 use Rattle.book.specs.Model.{Model, levelOf, placeCount, placeOf}
-use Rattle.book.specs.declared.place.Entry.{Entry}
 use Rattle.book.specs.declared.place.Place.{Place}
 use Rattle.book.specs.declared.place.Place.the-variants.{Filled, Spoilt}
 use Rattle.check.specs.Below.{firstOf, someBelow}
@@ -33,6 +32,7 @@ abbrev pub oneLower : Model → ℕ → Target → Bool
 oneLower m n (Pick p) = true
 oneLower m n (Child k) = eqb (levelOf m k + 1) (levelOf m n)
 
+-- a place whose entry lies outside the box
 abbrev pub outside : Bounds → Place → Bool
 outside b Spoilt = false
 outside b (Filled e) = not (contains b (e .bounds))
@@ -45,6 +45,7 @@ abbrev pub leavesBox : Model → Bounds → Target → Bool
 leavesBox m b (Pick p) = false
 leavesBox m b (Child k) = sticksOut m b k
 
+-- 15 to 17
 abbrev pub entryFault : Model → ℕ → ℕ → Bounds → Target → Option Told
 entryFault m n i b t =
     firstOf (

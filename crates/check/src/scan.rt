@@ -6,6 +6,7 @@ ghost use Rattle.std.specs.declared.result.Result.the-variants.{Ok};
 ghost use Rattle.refusal.specs.Told.{answered, treeTold};
 ghost use Rattle.check.specs.Marks.{firstUnnamed, faultTold};
 ghost use Rattle.check.specs.Names.{picksNamed};
+ghost use Rattle.check.specs.Tree.{Tree};
 ghost use Rattle.check.specs.Accepted.{Accepted, Exactly};
 ghost use Rattle.check.specs.Checked.{checked};
 use crate::named::Named;
@@ -37,14 +38,16 @@ fn first_unnamed(named: &Named, root: u16) -> Option<TreeFault>
 pub fn check<B: Book>(book: &B) -> Result<u16, TreeFault>
     ensures answer { λ r. ⌜ answered treeTold r ≡ checked (B·Book .model (now (book .entry))) ⌝ }
     ensures accepts { λ r. ⌜ ((k : ℕ) → Exactly (r ≡ Ok k) (Accepted (B·Book .model (now (book .entry))) × (k ≡ picksNamed (B·Book .model (now (book .entry)))))) ⌝ }
+    ensures tree { λ r. ⌜ ((k : ℕ) → r ≡ Ok k → Tree (B·Book .model (now (book .entry)))) ⌝ }
 {
     if total_places(book) > MOST_PLACES {
         return Err(TreeFault::TooManyPlaces);
     }
-    let mut named = Named::none();
+    let nodes = book.node_count();
     let root = root_of(book);
+    let mut named = Named::none();
     let fault = 'scan: {
-        for node in 0..book.node_count() {
+        for node in 0..nodes {
             let places = book.place_count(node);
             if node < root && places == 0 {
                 break 'scan Some(TreeFault::NoPlaces { node });

@@ -1,6 +1,4 @@
 -- The test says exactly that the one box lies within the other.
-use mathlib.Core.Path.{_≡_}
-use mathlib.Core.Bool.{Bool, true, _&&_}
 use native.Mathlib.Omega.{arith}
 use lib.IntN.{ℤ}
 use lib.Signed.{leZ, _≤ℤ_}

@@ -1,10 +1,9 @@
 use Prim.Native.Nat.{ℕ, _<_, _≤_}
-use mathlib.Core.Path.{_≡_, sym, ap, _∙_}
+use mathlib.Core.Path.{_≡_, sym, _∙_}
 use mathlib.Core.Bool.{Bool, false}
 use native.Mathlib.Omega.{arith}
 use Rattle.book.specs.Model.{placeOf, placeCount}
 use Rattle.std.proofs.shelf.Tests.{or-from}
-use Rattle.check.specs.Below.{someBelow}
 use Rattle.check.specs.Sound.{outside, sticksOut}
 use Rattle.check.proofs.Belows.{some-at, some-more, some-no, some-none}
 use Rattle.check.proofs.Sounds.{is-outside, not-outside, spoilt-passed}
