@@ -14,12 +14,13 @@ use Rattle.std.specs.declared.result.Result.{Result}
 use Rattle.std.specs.declared.result.Result.the-variants.{Ok, Err}
 use Rattle.refusal.specs.Told.{Told, plain, fileTold}
 use Rattle.refusal.specs.declared.hands.FileFault.{FileFault}
+use Rattle.book.specs.Model.{Model}
 use Rattle.loaded.specs.declared.record.NodeRecord.{NodeRecord}
 use Rattle.loaded.specs.declared.sections.Section.{Section}
 use Rattle.loaded.specs.Reading.{read, after, tested, countIn, recordsIn}
 use Rattle.loaded.specs.Tables.{bookOf, placesOfAll, withinLimits, firstsAddUp, lawfulNodes}
-use Rattle.loaded.specs.Decode.{nodesFrom, placesFrom, allKinds, kindsFrom, nodeSection, entrySection, pickSection, decode}
-use Rattle.loaded.specs.Seen.{seen, with-rest, nodesIn, placesIn, kindsIn, LawfulNodes, LawfulEntries}
+use Rattle.loaded.specs.Decode.{nodesFrom, placesFrom, allKinds, kindsFrom, nodeSection, entrySection, pickSection, threeSections, decode}
+use Rattle.loaded.specs.Seen.{seen, with-rest, nodesIn, placesIn, kindsIn, bookIn, LawfulNodes, LawfulEntries}
 
 -- a fault that is handed on
 pub handed : {A B : Type 0} (view : A → B) (P : A → Type 0) (r : Result A FileFault) (fault : FileFault) (want : Result B Told) → (y : FileFault) × (r ≡ Err y) × (y ≡ fault) → Err (fileTold fault) ≡ want → (seen view r ≡ want) × made r P
@@ -85,25 +86,33 @@ module _ (bytes : List ℕ) (n : ℕ) (p : Ok (read n (drop 2 bytes)) ≡ countI
   unfolding pickSection
   picks-read s q l = rw (sym p, sym (q ∙ past-count bytes n 1), l)
 
-pub no-nodes : (bytes : List ℕ) (t : Told) → Err t ≡ nodeSection bytes → Err t ≡ decode bytes
-unfolding decode
+pub no-nodes : (bytes : List ℕ) (t : Told) → Err t ≡ nodeSection bytes → Err t ≡ threeSections bytes
+unfolding threeSections
 no-nodes bytes t p = rw (sym p)
 
 module _ (bytes : List ℕ) (ns : Section) (places : ℕ) (p : Ok (with-rest nodesIn ns) ≡ nodeSection bytes) (sum : places ≡ placesOfAll (nodesIn ns)) where
-  pub no-entries : (t : Told) → Err t ≡ entrySection places (now (ns .rest)) → Err t ≡ decode bytes
-  unfolding decode
+  pub no-entries : (t : Told) → Err t ≡ entrySection places (now (ns .rest)) → Err t ≡ threeSections bytes
+  unfolding threeSections
   no-entries t q = rw (sym p, sym sum, sym q)
 
   module _ (es : Section) (q : Ok (with-rest placesIn es) ≡ entrySection places (now (ns .rest))) where
-    pub no-picks : (t : Told) → Err t ≡ pickSection (now (es .rest)) → Err t ≡ decode bytes
-    unfolding decode
+    pub no-picks : (t : Told) → Err t ≡ pickSection (now (es .rest)) → Err t ≡ threeSections bytes
+    unfolding threeSections
     no-picks t k = rw (sym p, sym sum, sym q, sym k)
 
-    module _ (ks : Section) (k : Ok (with-rest kindsIn ks) ≡ pickSection (now (es .rest))) where
-      pub bytes-after : (length (now (ks .rest)) ≡ 0 → ⊥) → Err (plain 1) ≡ decode bytes
-      unfolding decode
-      bytes-after ne = rw (sym p, sym sum, sym q, sym k, ne-eqb (length (now (ks .rest))) 0 ne)
+    pub sections-read : (ks : Section) → Ok (with-rest kindsIn ks) ≡ pickSection (now (es .rest)) → Ok (read (bookIn ns es ks) (now (ks .rest))) ≡ threeSections bytes
+    unfolding threeSections
+    sections-read ks k = rw (sym p, sym sum, sym q, sym k)
 
-      pub whole : length (now (ks .rest)) ≡ 0 → Ok (bookOf (nodesIn ns) (placesIn es) (kindsIn ks)) ≡ decode bytes
-      unfolding decode
-      whole e = rw (sym p, sym sum, sym q, sym k, eq-eqb (length (now (ks .rest))) 0 e)
+pub no-sections : (bytes : List ℕ) (t : Told) → Err t ≡ threeSections bytes → decode bytes ≡ Err t
+unfolding decode
+no-sections bytes t p = rw (sym p)
+
+module _ (bytes : List ℕ) (book : Model) (rest : List ℕ) (p : Ok (read book rest) ≡ threeSections bytes) where
+  pub bytes-after : false ≡ eqb (length rest) 0 → decode bytes ≡ Err (plain 1)
+  unfolding decode
+  bytes-after e = rw (sym p, sym e)
+
+  pub whole : true ≡ eqb (length rest) 0 → decode bytes ≡ Ok book
+  unfolding decode
+  whole e = rw (sym p, sym e)

@@ -79,11 +79,16 @@ pickSection bytes =
     (λ records rest. tested 4 (allKinds records)
     (Ok (read (kindsFrom records) rest))))
 
--- three sections, and nothing after them
-unfoldable pub decode : List ℕ → Result Model Told
-decode bytes =
+unfoldable pub threeSections : List ℕ → Result (Read Model) Told
+threeSections bytes =
     after (nodeSection bytes)
     (λ nodes rest. after (entrySection (placesOfAll nodes) rest)
     (λ places rest. after (pickSection rest)
-    (λ kinds rest. tested 1 (eqb (length rest) 0)
-    (Ok (bookOf nodes places kinds)))))
+    (λ kinds rest. Ok (read (bookOf nodes places kinds) rest))))
+
+-- three sections, and nothing after them
+unfoldable pub decode : List ℕ → Result Model Told
+decode bytes =
+    after (threeSections bytes)
+    (λ book rest. tested 1 (eqb (length rest) 0)
+    (Ok book))

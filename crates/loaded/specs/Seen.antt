@@ -35,8 +35,11 @@ kindsIn s = kindsFrom (now (s .records))
 abbrev pub with-rest : {A : Type 0} → (Section → A) → Section → Read A
 with-rest view s = read (view s) (now (s .rest))
 
-abbrev pub bookIn : Sections → Model
-bookIn s = bookOf (nodesIn (s .nodes)) (placesIn (s .entries)) (kindsIn (s .picks))
+abbrev pub bookIn : Section → Section → Section → Model
+bookIn nodes entries picks = bookOf (nodesIn nodes) (placesIn entries) (kindsIn picks)
+
+abbrev pub sectionsSeen : Sections → Read Model
+sectionsSeen s = read (bookIn (s .nodes) (s .entries) (s .picks)) (now (s .picks .rest))
 
 pub record LawfulNodes (s : Section) : Type 0 where
   pub least : 1 ≤ s .count
@@ -52,7 +55,10 @@ pub record LawfulEntries (places : ℕ) (s : Section) : Type 0 where
 pub record LawfulPicks (s : Section) : Type 0 where
   pub most : length (now (s .records)) ≤ 2048
 
-pub record LawfulSections (s : Sections) : Type 0 where
-  pub nodes : LawfulNodes (s .nodes)
-  pub entries : LawfulEntries (placesOfAll (nodesIn (s .nodes))) (s .entries)
-  pub picks : LawfulPicks (s .picks)
+pub record Lawful (ns es ps : Section) : Type 0 where
+  pub nodes : LawfulNodes ns
+  pub entries : LawfulEntries (placesOfAll (nodesIn ns)) es
+  pub picks : LawfulPicks ps
+
+abbrev pub LawfulSections : Sections → Type 0
+LawfulSections s = Lawful (s .nodes) (s .entries) (s .picks)

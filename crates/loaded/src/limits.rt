@@ -10,7 +10,9 @@ pub(crate) const MOST_LEVEL: u8 = 7;
 
 pub(crate) const MOST_PLACES: u8 = 16;
 
-/// The sizes of the records, in bytes.
+/// The sizes of a count and of the records, in bytes.
+pub(crate) const COUNT: usize = 2;
+
 pub(crate) const NODE: usize = 4;
 
 pub(crate) const ENTRY: usize = 26;

@@ -5,8 +5,9 @@ ghost use Prim.Native.Nat.{_+_, _*_, _≤_, _<_};
 ghost use lib.ListN.{length, drop};
 ghost use Rattle.std.specs.Vec.{made};
 ghost use Rattle.loaded.specs.Reading.{countIn, recordsIn, read};
-ghost use Rattle.loaded.specs.Decode.{nodeSection, entrySection, pickSection, decode};
-ghost use Rattle.loaded.specs.Seen.{seen, with-rest, nodesIn, placesIn, kindsIn, bookIn, LawfulNodes, LawfulEntries, LawfulPicks, LawfulSections};
+ghost use Rattle.loaded.specs.Decode.{nodeSection, entrySection, pickSection, threeSections};
+ghost use Rattle.loaded.specs.Seen.{seen, with-rest, nodesIn, placesIn, kindsIn, sectionsSeen, LawfulNodes, LawfulEntries, LawfulPicks, LawfulSections};
+use crate::limits::COUNT;
 use crate::limits::ENTRY;
 use crate::limits::MOST_ENTRIES;
 use crate::limits::MOST_NODES;
@@ -27,7 +28,7 @@ pub(crate) struct Section<'a> {
     pub(crate) rest: &'a [u8],
 }
 
-/// The three sections of a lawful file.
+/// The three sections of a file.
 #[derive(Clone, Copy)]
 pub(crate) struct Sections<'a> {
     pub(crate) nodes: Section<'a>,
@@ -40,7 +41,7 @@ fn read_count(bytes: &[u8], least: usize, most: usize) -> Result<usize, FileFaul
     ensures seen { λ r. ⌜ seen (λ n. read n (drop 2 (now (bytes .entry)))) r ≡ countIn least most (now (bytes .entry)) ⌝ }
     ensures within { λ r. ⌜ made r (λ n. (2 ≤ length (now (bytes .entry))) × (least ≤ n) × (n ≤ most)) ⌝ }
 {
-    if bytes.len() < 2 {
+    if bytes.len() < COUNT {
         return Err(FileFault::Length);
     }
     let count = u16::from_le_bytes([bytes[0], bytes[1]]) as usize;
@@ -72,7 +73,7 @@ fn read_nodes(bytes: &[u8]) -> Result<Section<'_>, FileFault>
     ensures lawful { λ r. ⌜ made r LawfulNodes ⌝ }
 {
     let count = read_count(bytes, 1, MOST_NODES)?;
-    let section = read_records(&bytes[2..], count, NODE)?;
+    let section = read_records(&bytes[COUNT..], count, NODE)?;
     if !within_limits(section.records, count) || !firsts_add_up(section.records, count) {
         return Err(FileFault::Nodes);
     }
@@ -87,7 +88,7 @@ fn read_entries(bytes: &[u8], places: usize) -> Result<Section<'_>, FileFault>
     if count != places {
         return Err(FileFault::Nodes);
     }
-    read_records(&bytes[2..], count, ENTRY)
+    read_records(&bytes[COUNT..], count, ENTRY)
 }
 
 fn read_picks(bytes: &[u8]) -> Result<Section<'_>, FileFault>
@@ -95,24 +96,21 @@ fn read_picks(bytes: &[u8]) -> Result<Section<'_>, FileFault>
     ensures lawful { λ r. ⌜ made r LawfulPicks ⌝ }
 {
     let count = read_count(bytes, 0, MOST_PICKS)?;
-    let section = read_records(&bytes[2..], count, PICK)?;
+    let section = read_records(&bytes[COUNT..], count, PICK)?;
     if !all_kinds(section.records) {
         return Err(FileFault::Kind);
     }
     Ok(section)
 }
 
-/// The sections of a lawful file, or the first fault.
+/// The three sections, or the first fault in them.
 pub(crate) fn read_sections(bytes: &[u8]) -> Result<Sections<'_>, FileFault>
-    ensures seen { λ r. ⌜ seen bookIn r ≡ decode (now (bytes .entry)) ⌝ }
+    ensures seen { λ r. ⌜ seen sectionsSeen r ≡ threeSections (now (bytes .entry)) ⌝ }
     ensures lawful { λ r. ⌜ made r LawfulSections ⌝ }
 {
     let nodes = read_nodes(bytes)?;
     let entries = read_entries(nodes.rest, places_of_all(nodes.records, nodes.count))?;
     let picks = read_picks(entries.rest)?;
-    if picks.rest.len() != 0 {
-        return Err(FileFault::Length);
-    }
     Ok(Sections {
         nodes,
         entries,

@@ -5,10 +5,12 @@ ghost use Rattle.refusal.specs.Told.{answered, fileTold};
 ghost use Rattle.loaded.specs.Decode.{decode};
 ghost use Rattle.loaded.specs.Load.{loadAnswer, heldAfter};
 ghost use Rattle.loaded.specs.Loaded.{loadedModel};
+ghost use Rattle.loaded.specs.Seen.{bookIn, Lawful};
 use crate::entries::fill_places;
 use crate::loaded::Loaded;
 use crate::nodes::fill_nodes;
 use crate::picks::fill_kinds;
+use crate::sections::Section;
 use crate::sections::Sections;
 use crate::sections::read_sections;
 use refusal::hands::FileFault;
@@ -24,9 +26,20 @@ impl Loaded {
             entries,
             picks,
         } = read_sections(bytes)?;
+        if !picks.rest.is_empty() {
+            return Err(FileFault::Length);
+        }
+        self.fill(nodes, entries, picks);
+        Ok(())
+    }
+
+    /// Takes the book of these sections.
+    fn fill(&mut self, nodes: Section<'_>, entries: Section<'_>, picks: Section<'_>)
+        requires { ⌜ Lawful nodes entries picks ⌝ }
+        ensures { λ _. ⌜ loadedModel (now (self .exit)) ≡ bookIn (nodes .entry) (entries .entry) (picks .entry) ⌝ }
+    {
         fill_nodes(&mut self.nodes, nodes.records, nodes.count);
         fill_places(&mut self.places, entries.records, entries.count);
         fill_kinds(&mut self.kinds, picks.records);
-        Ok(())
     }
 }

@@ -8,8 +8,8 @@ use Rattle.loaded.specs.Reading.{read}
 use Rattle.loaded.proofs.Reading.{count-missing, count-low, count-high, count-is}
 use Rattle.loaded.proofs.sections.read_count.Needs as need
 
-pub returns-then-bytes-lt2 : need.returns-then-bytes-lt2
-returns-then-bytes-lt2 c = record {
+pub returns-then-bytes-lt-COUNT : need.returns-then-bytes-lt-COUNT
+returns-then-bytes-lt-COUNT c = record {
   seen = sym (count-missing (c .args .least) (c .args .most) (c .args .bytes .now) (omega arith));
   within = tt;
 }

@@ -1,39 +1,43 @@
-use native.Mathlib.Omega.{arith}
-use Rattle.std.specs.Of.Vec.{vec-items}
-use Rattle.loaded.proofs.Filling.{some-nodes, most-nodes, nodes-lawful, places-total, most-picks}
+use mathlib.Core.Path.{_≡_, sym, ap, _∙_}
+use denote.Ref.{now}
+use Rattle.std.proofs.shelf.Results.{err-from-errBy}
+use Rattle.std.specs.declared.result.Result.{Result}
+use Rattle.std.specs.declared.result.Result.the-variants.{Err}
+use Rattle.refusal.specs.Told.{Told, answered, fileTold}
+use Rattle.refusal.specs.declared.hands.FileFault.{FileFault}
+use Rattle.book.specs.Model.{Model}
+use Rattle.loaded.specs.Load.{loadAnswer, heldAfter}
+use Rattle.loaded.specs.Loaded.{loadedModel}
+use Rattle.loaded.specs.Seen.{bookIn}
+use Rattle.loaded.proofs.Decoding.{no-sections, bytes-after, whole}
 use Rattle.loaded.proofs.loaded.Loaded.load.Needs as need
 
-pub ghost-self : need.ghost-self
-ghost-self c =
+pub returns-in-Break-nodes : need.returns-in-Break-nodes
+returns-in-Break-nodes c =
+    let f = c .in-Break-nodes .field-0 .0 in
+    let e = err-from-errBy (c .from-residual .result) (c .from-residual .ensures .1) in
+    let d = no-sections (c .args .bytes .now) (fileTold f) (c .in-Break-nodes .ensures tt .seen) in
+    record {
+      answer = ap (answered fileTold) (e .1 ∙ ap (λ (y : FileFault). Err y) (e .2)) ∙ sym (ap loadAnswer d);
+      book = sym (ap (λ (x : Result Model Told). heldAfter x (loadedModel (c .args .self .now))) d);
+    }
+
+pub returns-then-not-is-empty : need.returns-then-not-is-empty
+returns-then-not-is-empty c =
     let s = c .in-Continue-nodes .field-0 in
-    let f = c .in-Continue-nodes .ensures tt .lawful in
-    let ns = vec-items (c .fill-nodes .last .table) in
-    let same = c .fill-nodes .ensures .items in
-    let held = c .args .self .now in (
-      some-nodes s f ns same,
-      (
-        most-nodes s f ns same,
-        (
-          most-picks s f (vec-items (c .fill-kinds .last .table)) (c .fill-kinds .ensures .items),
-          (
-            nodes-lawful s f ns same,
-            (
-              places-total s f ns same (vec-items (c .fill-places .last .table)) (c .fill-places .ensures .items),
-              (
-                c .fill-places .ensures .fits,
-                (
-                  omega (arith, c .fill-nodes .ensures .room, held .nodeRoom),
-                  (
-                    omega (arith, c .fill-places .ensures .room, held .placeRoom),
-                    (
-                      omega (arith, c .fill-kinds .ensures .room, held .kindRoom),
-                      tt,
-                    ),
-                  ),
-                ),
-              ),
-            ),
-          ),
-        ),
-      ),
-    )
+    let rest = now (s .picks .rest) in
+    let d = bytes-after (c .args .bytes .now) (bookIn (s .nodes) (s .entries) (s .picks)) rest (c .in-Continue-nodes .ensures tt .seen) (c .if-not-is-empty .ensures tt) in
+    record {
+      answer = sym (ap loadAnswer d);
+      book = sym (ap (λ (x : Result Model Told). heldAfter x (loadedModel (c .args .self .now))) d);
+    }
+
+pub returns : need.returns
+returns c =
+    let s = c .in-Continue-nodes .field-0 in
+    let rest = now (s .picks .rest) in
+    let d = whole (c .args .bytes .now) (bookIn (s .nodes) (s .entries) (s .picks)) rest (c .in-Continue-nodes .ensures tt .seen) (c .if-not-is-empty .ensures tt) in
+    record {
+      answer = sym (ap loadAnswer d);
+      book = c .fill .ensures ∙ sym (ap (λ (x : Result Model Told). heldAfter x (loadedModel (c .args .self .now))) d);
+    }

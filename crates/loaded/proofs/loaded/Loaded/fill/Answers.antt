@@ -1,0 +1,41 @@
+use native.Mathlib.Omega.{arith}
+use Rattle.std.specs.Of.Vec.{vec-items}
+use Rattle.loaded.proofs.Filling.{some-nodes, most-nodes, nodes-lawful, places-total, most-picks}
+use Rattle.loaded.proofs.loaded.Loaded.fill.Needs as need
+
+pub ghost-self : need.ghost-self
+ghost-self c =
+    let n = c .args .nodes in
+    let e = c .args .entries in
+    let p = c .args .picks in
+    let f = c .pre in
+    let ns = vec-items (c .fill-nodes .last .table) in
+    let same = c .fill-nodes .ensures .items in
+    let held = c .args .self .now in (
+      some-nodes n e p f ns same,
+      (
+        most-nodes n e p f ns same,
+        (
+          most-picks n e p f (vec-items (c .fill-kinds .last .table)) (c .fill-kinds .ensures .items),
+          (
+            nodes-lawful n e p f ns same,
+            (
+              places-total n e p f ns same (vec-items (c .fill-places .last .table)) (c .fill-places .ensures .items),
+              (
+                c .fill-places .ensures .fits,
+                (
+                  omega (arith, c .fill-nodes .ensures .room, held .nodeRoom),
+                  (
+                    omega (arith, c .fill-places .ensures .room, held .placeRoom),
+                    (
+                      omega (arith, c .fill-kinds .ensures .room, held .kindRoom),
+                      tt,
+                    ),
+                  ),
+                ),
+              ),
+            ),
+          ),
+        ),
+      ),
+    )
