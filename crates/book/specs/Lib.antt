@@ -1,2 +1,4 @@
 pub mod Kinds
 pub mod Model
+pub mod Spoilt
+pub mod Totals

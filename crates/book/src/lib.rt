@@ -3,3 +3,5 @@
 pub mod book;
 pub mod kind;
 pub mod place;
+pub mod spoilt;
+pub mod totals;

@@ -4,3 +4,4 @@ pub mod Sounds
 pub mod Naming
 pub mod Faults
 pub mod Scans
+pub mod Meaning

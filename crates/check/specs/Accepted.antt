@@ -42,3 +42,7 @@ pub record Accepted (m : Model) : Type 0 where
   pub parent : (n : ℕ) → n < rootOf m → Parent m n
   -- no two places name the same pick
   pub once : (p n i k j : ℕ) → Names m n i (Pick p) → Names m k j (Pick p) → (n ≡ k) × (i ≡ j)
+
+-- each says the other
+abbrev pub Exactly : Type 0 → Type 0 → Type 0
+Exactly P Q = (P → Q) × (Q → P)

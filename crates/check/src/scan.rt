@@ -1,9 +1,12 @@
 //! The check.
 
 ghost use mathlib.Core.Path.{_≡_};
-ghost use Prim.Native.Nat.{_≤_};
+ghost use Prim.Native.Nat.{ℕ, _≤_};
+ghost use Rattle.std.specs.declared.result.Result.the-variants.{Ok};
 ghost use Rattle.refusal.specs.Told.{answered, treeTold};
 ghost use Rattle.check.specs.Marks.{firstUnnamed, faultTold};
+ghost use Rattle.check.specs.Names.{picksNamed};
+ghost use Rattle.check.specs.Accepted.{Accepted, Exactly};
 ghost use Rattle.check.specs.Checked.{checked};
 use crate::named::Named;
 use crate::sound::sound_target;
@@ -33,6 +36,7 @@ fn first_unnamed(named: &Named, root: u16) -> Option<TreeFault>
 /// first, then lowest place.
 pub fn check<B: Book>(book: &B) -> Result<u16, TreeFault>
     ensures answer { λ r. ⌜ answered treeTold r ≡ checked (B·Book .model (now (book .entry))) ⌝ }
+    ensures accepts { λ r. ⌜ ((k : ℕ) → Exactly (r ≡ Ok k) (Accepted (B·Book .model (now (book .entry))) × (k ≡ picksNamed (B·Book .model (now (book .entry)))))) ⌝ }
 {
     if total_places(book) > MOST_PLACES {
         return Err(TreeFault::TooManyPlaces);

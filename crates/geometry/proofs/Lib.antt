@@ -1,3 +1,6 @@
 pub mod Spans
 pub mod Gaps
 pub mod Containing
+pub mod Moves
+pub mod Boxes
+pub mod Arounds

@@ -1,7 +1,11 @@
 pub mod Range
 pub mod Bounds
 pub mod Within
+pub mod Ends
 pub mod Gap
 pub mod Distance
 pub mod Nearest
 pub mod Contains
+pub mod Choice
+pub mod Moved
+pub mod Around

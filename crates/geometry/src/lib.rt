@@ -1,9 +1,12 @@
 //! Coordinates, bounding boxes that cannot be wrong, and how near two boxes are.
 
+pub mod around;
 pub mod bounds;
 pub mod chessboard;
+pub mod choice;
 pub mod contains;
 pub mod euclidean;
 pub mod gap;
 pub mod manhattan;
 pub mod measure;
+pub mod moved;

@@ -5,7 +5,7 @@ ghost use mathlib.Core.Path.{_≡_};
 ghost use lib.ListN.{length};
 ghost use Rattle.std.specs.Orderings.{Decides};
 ghost use Rattle.refusal.specs.Told.{answered, typingTold};
-ghost use Rattle.level.specs.Read.{longestText, digitsSpell, spelt, reads, TextOf, ReadingLaw};
+ghost use Rattle.level.specs.Read.{longestText, digitsSpell, spelt, reads, TextOf, ReadingLaw, RoundTrip, NoTwoShareAText};
 use crate::write::write_level;
 use refusal::hands::TypingFault;
 
@@ -51,6 +51,8 @@ fn is_text_of(text: &[u8], level: i32) -> bool
 pub fn read_level(text: &[u8]) -> Result<i32, TypingFault>
     ensures answer { λ r. ⌜ answered typingTold r ≡ reads (now (text .entry)) ⌝ }
     ensures law { λ r. ⌜ ReadingLaw (now (text .entry)) (answered typingTold r) ⌝ }
+    ensures round_trip { λ _. ⌜ RoundTrip ⌝ }
+    ensures distinct { λ _. ⌜ NoTwoShareAText ⌝ }
 {
     if text.len() > LONGEST {
         return Err(TypingFault::NotALevel);

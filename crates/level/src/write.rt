@@ -6,7 +6,6 @@ ghost use mathlib.Core.List.{_++_};
 ghost use lib.ListN.{length, drop};
 ghost use Rattle.std.specs.Written.{decimal};
 ghost use Rattle.refusal.specs.Told.{answered, told};
-ghost use Rattle.level.specs.Read.{RoundTrip, NoTwoShareAText};
 ghost use Rattle.level.specs.Write.{hundredthsText, levelText, placed, writes, written};
 use crate::range::is_level;
 use refusal::hands::SliceFault;
@@ -53,11 +52,10 @@ fn put_hundredths(hundredths: u32, out: &mut [u8], at: usize) -> usize
     point + 3
 }
 
-/// How many bytes the text of `level` has.
+/// How many bytes the text of `level` has: a minus, the feet, the point and two digits.
 fn text_length(level: i32) -> usize
     ensures { λ r. ⌜ r ≡ length (levelText level) ⌝ }
 {
-    // the minus is the level's own: -35 has no whole feet to take it from
     usize::from(level < 0) + digit_count(level.unsigned_abs() / 100) + 3
 }
 
@@ -67,6 +65,7 @@ fn put_text(level: i32, out: &mut [u8])
     ensures { λ _. ⌜ now (out .exit) ≡ levelText level ++ drop (length (levelText level)) (now (out .entry)) ⌝ }
 {
     let hundredths = level.unsigned_abs();
+    // not the sign of the whole feet: -35 has none of those, and still its minus
     if level < 0 {
         out[0] = b'-';
         put_hundredths(hundredths, out, 1);
@@ -79,8 +78,6 @@ fn put_text(level: i32, out: &mut [u8])
 pub fn write_level(level: i32, out: &mut [u8]) -> Result<usize, Refusal>
     ensures answer { λ r. ⌜ answered told r ≡ writes level (length (now (out .entry))) ⌝ }
     ensures bytes { λ _. ⌜ now (out .exit) ≡ written level (now (out .entry)) ⌝ }
-    ensures round_trip { λ _. ⌜ RoundTrip ⌝ }
-    ensures distinct { λ _. ⌜ NoTwoShareAText ⌝ }
 {
     if !is_level(level) {
         return Err(Refusal::Typing(TypingFault::OutOfRange));

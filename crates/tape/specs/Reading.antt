@@ -33,4 +33,5 @@ fromGround g p =
     Ok (record { level = l; euclidean = euclidean g p; manhattan = manhattan g p; chessboard = chessboard g p }))
 
 abbrev pub shows : List ℕ → Result Shown Told
-shows line = then (pointTyped line) (λ p. then (boundsOf ground ground) (λ g. fromGround g p))
+shows line =
+    then (pointTyped line) (λ t. then (boundsOf t t) (λ p. then (boundsOf ground ground) (λ g. fromGround g p)))

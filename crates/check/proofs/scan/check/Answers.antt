@@ -1,16 +1,18 @@
 use Prim.Native.Nat.{ℕ, _≤_, _<_}
 use mathlib.Core.Path.{_≡_, refl, sym, ap, _∙_}
-use mathlib.Core.Logic.{inl, inr}
 use native.Mathlib.Omega.{arith}
-use Rattle.std.specs.declared.option.Option.the-variants.{Some, None}
+use Rattle.std.specs.declared.option.Option.the-variants.{None}
+use Rattle.std.specs.declared.result.Result.the-variants.{Ok, Err}
+use Rattle.refusal.specs.declared.hands.TreeFault.the-variants.{TooManyPlaces}
 use Rattle.book.specs.Model.{nodeCount, placeCount}
 use Rattle.check.specs.Below.{countBelow}
 use Rattle.check.specs.Totals.{totalPlaces}
 use Rattle.check.specs.Checked.{treeFault}
 use Rattle.check.specs.Marks.{bitOf, faultTold, firstUnnamed}
 use Rattle.check.specs.declared.target.Target.the-variants.{Pick}
-use Rattle.check.proofs.Faults.{Fertile, tree-crowded, refused, accepted}
-use Rattle.check.proofs.Scans.{Scanned, marked-none, has-bit, place-passed, node-passed, fertile-from, stopped-barren, stopped-unsound, stopped-twice, scanned-through, count-marked}
+use Rattle.check.proofs.Faults.{tree-crowded, refused, accepted}
+use Rattle.check.proofs.Meaning.{answer-exactly}
+use Rattle.check.proofs.Scans.{marked-none, has-bit, place-passed, node-passed, fertile-from, stopped-barren, stopped-unsound, stopped-twice, scanned-through, count-marked}
 use Rattle.check.proofs.scan.check.Needs as need
 use Rattle.check.proofs.scan.check.Needs.{then-loop-node-test·then-node-root·then-places-eq0, then-loop-node-test·else-node-root·then-loop-place-test·in-Err, then-loop-node-test·else-node-root·then-loop-place-test·in-Ok·then-has, else-loop-node-test}
 
@@ -18,7 +20,8 @@ pub returns-then-total-places-gt-MOST-PLACES : need.returns-then-total-places-gt
 returns-then-total-places-gt-MOST-PLACES g c =
     let m = g .B·Book .model (c .args .book .now) in
     let h : 2048 < totalPlaces m = omega (arith, c .total-places .ensures) in
-    record { answer = refused m _ (tree-crowded m h) }
+    let answer = refused m _ (tree-crowded m h) in
+    record { answer = answer; accepts = answer-exactly m (Err TooManyPlaces) answer }
 
 pub loop-node-holds : need.loop-node-holds
 loop-node-holds g c =
@@ -71,7 +74,8 @@ returns-in-Some g c =
           sym (scanned-through m (c .loop-node .named) n few (omega (arith, c .node-count-node-end .ensures, w .loop-node-test .left)) (c .loop-node .inv))
           ∙ ap (firstUnnamed (c .loop-node .named)) (sym (c .root-of-root .ensures)) ∙ sym (w .first-unnamed-fault .ensures) ∙ ap faultTold (sym (w .fault-is))
     ] in
-    record { answer = refused m _ (found ∙ ap faultTold (c .in-Some .is)) }
+    let answer = refused m _ (found ∙ ap faultTold (c .in-Some .is)) in
+    record { answer = answer; accepts = answer-exactly m (Err (c .in-Some .fault)) answer }
 
 pub returns-in-None : need.returns-in-None
 returns-in-None g c =
@@ -89,5 +93,6 @@ returns-in-None g c =
           sym (scanned-through m a n few end (c .loop-node .inv))
           ∙ ap (firstUnnamed a) (sym (c .root-of-root .ensures)) ∙ sym (w .first-unnamed-fault .ensures) ∙ ap faultTold (sym (w .fault-is) ∙ c .in-None .is) in
           let count = c .pick-count .ensures ∙ ap (λ b. countBelow (λ p. bitOf b (Pick p)) 2048) (w .named-is) ∙ count-marked m a n (g .B·Book·met .shape (c .args .book .now)) end (c .loop-node .inv) in
-          record { answer = accepted m _ none count }
+          let answer = accepted m _ none count in
+          record { answer = answer; accepts = answer-exactly m (Ok (c .pick-count .result)) answer }
     ]

@@ -1,0 +1,5 @@
+//! What a hand types at the console, and what the console says.
+
+pub mod command;
+pub mod limit;
+pub mod state;

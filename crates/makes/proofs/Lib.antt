@@ -1,0 +1,10 @@
+pub mod Tests
+pub mod Maps
+pub mod Shapes
+pub mod Smallests
+pub mod Moves
+pub mod Shifts
+pub mod Offsets
+pub mod Joins
+pub mod Fits
+pub mod Seams

@@ -1,0 +1,26 @@
+use mathlib.Core.Path.{sym, _∙_, ap}
+use Rattle.book.specs.Model.{Node}
+use Rattle.makes.proofs.Seams.{node-at, node-none}
+use Rattle.makes.proofs.join.JoinBook.level.Needs as need
+
+pub returns-in-rest : need.returns-in-rest
+returns-in-rest g c =
+    sym (ap (λ (n : Node). n .level) (node-none (c .args .self .now .seam) (g .L·Book .model (c .args .self .now .left)) (g .R·Book .model (c .args .self .now .right)) (c .args .node) (c .in-rest .is)))
+
+pub returns-in-Left : need.returns-in-Left
+returns-in-Left g c =
+    c .level .ensures
+    ∙ sym (ap (λ (n : Node). n .level) (node-at (c .args .self .now .seam) (g .L·Book .model (c .args .self .now .left)) (g .R·Book .model (c .args .self .now .right)) (c .in-Some .seam) _ (c .args .node) (c .in-Some .is) (c .in-Left .ensures tt)))
+
+pub returns-in-Right : need.returns-in-Right
+returns-in-Right g c =
+    c .level-in-Right .ensures
+    ∙ sym (ap (λ (n : Node). n .level) (node-at (c .args .self .now .seam) (g .L·Book .model (c .args .self .now .left)) (g .R·Book .model (c .args .self .now .right)) (c .in-Some .seam) _ (c .args .node) (c .in-Some .is) (c .in-Right .ensures tt)))
+
+pub returns-in-Root : need.returns-in-Root
+returns-in-Root g c =
+    sym (ap (λ (n : Node). n .level) (node-at (c .args .self .now .seam) (g .L·Book .model (c .args .self .now .left)) (g .R·Book .model (c .args .self .now .right)) (c .in-Some .seam) _ (c .args .node) (c .in-Some .is) (c .in-Root .ensures tt)))
+
+pub returns-in-Outside : need.returns-in-Outside
+returns-in-Outside g c =
+    sym (ap (λ (n : Node). n .level) (node-at (c .args .self .now .seam) (g .L·Book .model (c .args .self .now .left)) (g .R·Book .model (c .args .self .now .right)) (c .in-Some .seam) _ (c .args .node) (c .in-Some .is) (c .in-Outside .ensures tt)))
