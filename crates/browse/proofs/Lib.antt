@@ -1,0 +1,10 @@
+pub mod Order
+pub mod Places
+pub mod Members
+pub mod Below
+pub mod Once
+pub mod Ranking
+pub mod Openable
+pub mod Follows
+pub mod Lawful
+pub mod Example

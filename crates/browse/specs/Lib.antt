@@ -1,0 +1,5 @@
+pub mod Thing
+pub mod Tree
+pub mod Broken
+pub mod Browse
+pub mod Law
