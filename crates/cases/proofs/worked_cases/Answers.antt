@@ -2,8 +2,13 @@ use mathlib.Core.Path.{refl}
 use Rattle.std.specs.Written.{digits}
 use Rattle.geometry.specs.Bounds.{spanAt}
 use Rattle.geometry.specs.Distance.{euclidean, manhattan, chessboard}
+use Rattle.file.specs.Encode.{bytesOf}
+use Rattle.loaded.specs.Reading.{countIn, recordsIn}
+use Rattle.loaded.specs.Decode.{nodeSection, entrySection, pickSection, threeSections, decode}
+use Rattle.browse.specs.Broken.{canOpen}
+use Rattle.browse.specs.Browse.{nextOf}
 use Rattle.cases.proofs.worked_cases.Needs as need
 
 pub returns : need.returns
-unfolding digits spanAt euclidean manhattan chessboard
+unfolding digits spanAt euclidean manhattan chessboard bytesOf countIn recordsIn nodeSection entrySection pickSection threeSections decode canOpen nextOf
 returns c = record { hold = refl; count = refl }
