@@ -1,2 +1,4 @@
 pub mod Waitings
 pub mod Entering
+pub mod Collecting
+pub mod Opens

@@ -1,6 +1,5 @@
 -- Where a browse stands by its table, and what is done there.
 use Prim.Native.Nat.{ℕ, _+_}
-use mathlib.Core.Bool.{Bool, cond}
 use mathlib.Core.List.{List, map}
 use lib.IntN.{pos}
 use lib.ListN.{take}
@@ -31,9 +30,6 @@ kidsHeld k = map thingOf (take (k .count) (k .table))
 abbrev pub kidsOf : Option Kids → Option (List Thing)
 kidsOf None = None
 kidsOf (Some k) = Some (kidsHeld k)
-
-abbrev pub onlyIf : {A : Type 0} → Bool → A → Option A
-onlyIf b a = cond b (Some a) None
 
 abbrev pub standing : Desk → Standing Thing
 standing d = record {

@@ -5,3 +5,4 @@ pub mod Browse
 pub mod Law
 pub mod Sooner
 pub mod Desk
+pub mod Opening

@@ -3,4 +3,5 @@
 pub mod answer;
 mod desk;
 mod kids;
+mod opening;
 mod waiting;
