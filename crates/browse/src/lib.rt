@@ -1,7 +1,9 @@
 //! Browsing a book: the nearest pick first, then the next, up to a limit.
 
 pub mod answer;
+mod browse;
 mod desk;
+mod follow;
 mod kids;
 mod opening;
 mod waiting;
