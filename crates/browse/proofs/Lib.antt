@@ -8,3 +8,9 @@ pub mod Openable
 pub mod Follows
 pub mod Lawful
 pub mod Example
+pub mod Waitings
+pub mod Entering
+pub mod Collecting
+pub mod Opens
+pub mod Nexts
+pub mod Saying

@@ -3,3 +3,6 @@ pub mod Tree
 pub mod Broken
 pub mod Browse
 pub mod Law
+pub mod Sooner
+pub mod Desk
+pub mod Opening

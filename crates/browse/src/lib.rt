@@ -2,4 +2,9 @@
 
 pub mod answer;
 pub mod law;
+mod browse;
+mod desk;
+mod follow;
+mod kids;
+mod opening;
 mod waiting;
