@@ -8,13 +8,21 @@ use Rattle.std.specs.declared.option.Option.the-variants.{Some, None}
 use Rattle.std.specs.declared.result.Result.the-variants.{Ok, Err}
 use Rattle.refusal.specs.Told.{atNode}
 use Rattle.geometry.specs.Bounds.{spanAt, boundsAt}
+use Rattle.geometry.specs.Contains.{contains}
 use Rattle.geometry.specs.Distance.{euclidean}
 use Rattle.geometry.specs.declared.bounds.Point.{Point}
 use Rattle.geometry.specs.declared.bounds.Bounds.{Bounds}
 use Rattle.book.specs.declared.kind.Kind.the-variants.{CasingTop, Perforation, Marker}
 use Rattle.book.specs.declared.place.Place.{Place}
 use Rattle.book.specs.declared.place.Place.the-variants.{Filled, Spoilt}
-use Rattle.book.specs.Model.{Model}
+use Rattle.book.specs.Model.{Model, BookShape}
+use Rattle.check.specs.Below.{countBelow}
+use Rattle.check.specs.Totals.{totalPlaces}
+use Rattle.check.specs.Names.{names, namedBefore, isNamed, picksNamed}
+use Rattle.check.specs.Sound.{sticksOut, soundTarget}
+use Rattle.check.specs.Checked.{placeFault, nodeFault, treeFault, checked}
+use Rattle.check.specs.Accepted.{Accepted}
+use Rattle.check.proofs.Meaning.{accepted-exactly}
 use Rattle.search.specs.declared.turn.Hand.the-variants.{Day, Evening}
 use Rattle.search.specs.declared.turn.Call.the-variants.{Next, Report}
 use Rattle.search.specs.declared.turn.Turn.{Turn}
@@ -23,7 +31,8 @@ use Rattle.browse.specs.declared.answer.Row.{Row}
 use Rattle.browse.specs.Tree.{Far}
 use Rattle.browse.specs.Broken.{canOpen}
 use Rattle.browse.specs.Browse.{Reply, opening, nextOf, repliesFrom}
-use Rattle.browse.specs.Law.{ranking, nodeDistances, unlimited}
+use Rattle.browse.specs.Law.{ranking, nodeDistances, unlimited, Browsed, Monotone, FitsWord}
+use Rattle.browse.proofs.Lawful.{browsed}
 
 -- -n
 abbrev minus : ℕ → ℤ
@@ -73,6 +82,17 @@ report = record { hand = Evening; call = Report }
 
 abbrev replies : Model → List Turn → List Reply
 replies m = repliesFrom m far (opening m)
+
+-- the check accepts it, so the law speaks of it
+checks : checked small ≡ Ok 4
+unfolding spanAt contains checked treeFault nodeFault placeFault soundTarget sticksOut names namedBefore isNamed picksNamed countBelow totalPlaces
+checks = refl
+
+accepted : Accepted small
+accepted = accepted-exactly small 4 .0 checks .0
+
+law : BookShape small → Monotone far → FitsWord far → (turns : List Turn) → Browsed small far turns (replies small turns)
+law shape mono fits = browsed small far shape mono fits accepted
 
 ranked : ranking small far ≡ row 0 1225 35 ∷ row 2 251225 35 ∷ row 3 4250000 2000 ∷ row 1 16000000 4000 ∷ []
 unfolding spanAt euclidean

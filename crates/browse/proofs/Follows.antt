@@ -3,22 +3,21 @@ use mathlib.Core.Path.{_≡_, refl, sym, ap, _∙_}
 use mathlib.Core.Bool.{Bool, true, false, cond}
 use Prim.Native.Nat.{ℕ, _-_}
 use lib.Dec.{leb}
-use Rattle.std.specs.shelf.Lists.{List, [], _∷_, map, All}
+use Rattle.std.specs.shelf.Lists.{List, [], _∷_, map}
 use Rattle.std.specs.declared.result.Result.the-variants.{Ok, Err}
 use Rattle.std.proofs.shelf.Tests.{cond-true}
 use Rattle.refusal.specs.Told.{atNode}
-use Rattle.book.specs.Model.{Model, BookShape, nodeCount}
+use Rattle.book.specs.Model.{Model, BookShape}
 use Rattle.check.specs.Accepted.{Accepted}
 use Rattle.search.specs.declared.turn.Call.{Call}
 use Rattle.search.specs.declared.turn.Call.the-variants.{Next, Report}
 use Rattle.search.specs.declared.turn.Turn.{Turn}
 use Rattle.search.specs.Tree.{Tree}
 use Rattle.search.specs.Answer as heard
-use Rattle.search.specs.Glances.{Glance, done, on, follow, finish}
+use Rattle.search.specs.Glances.{done, on, follow, finish}
 use Rattle.search.specs.Search.{Standing, start, tellFirst, openFirst}
 use Rattle.search.specs.Search as search
 use Rattle.search.specs.Turns.{standingAfter}
-use Rattle.search.proofs.Tree.{Members}
 use Rattle.search.proofs.Glances.{said}
 use Rattle.search.proofs.Room.{Held, stand}
 use Rattle.search.proofs.Follows.{next-follows, answers-follow, standing-follows}

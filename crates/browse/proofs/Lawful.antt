@@ -1,7 +1,6 @@
 -- The law of browsing, from that of the search which a browse of an accepted book is.
 use mathlib.Core.Path.{_≡_, refl, sym, ap, subst, _∙_}
 use mathlib.Core.Bool.{Bool, true, false, cond}
-use mathlib.Core.Logic.{inl}
 use Prim.Native.Nat.{ℕ}
 use lib.Dec.{leb}
 use Rattle.std.specs.shelf.Lists.{List, [], _∷_, _++_, map, All}
@@ -30,7 +29,7 @@ use Rattle.search.proofs.Law as searching
 use Rattle.browse.specs.declared.answer.Row.{Row}
 use Rattle.browse.specs.Thing.{Thing}
 use Rattle.browse.specs.Tree.{Far, treeOf}
-use Rattle.browse.specs.Browse.{Reply, row, opening, nextOf, turned, repliesFrom, standsAfter}
+use Rattle.browse.specs.Browse.{row, opening, nextOf, turned, repliesFrom}
 use Rattle.browse.specs.Law.{ranking, field, unlimited, Answered, answerIn, answers, Browsed, Lawful, TellsNearest, Monotone, FitsWord}
 use Rattle.browse.proofs.Members.{Member, book-members, book-ordered}
 use Rattle.browse.proofs.Ranking.{same-ranking, same-distances, none-beyond}

@@ -2,7 +2,7 @@
 use mathlib.Core.Path.{_≡_, refl, sym, ap, subst, _∙_}
 use mathlib.Core.Bool.{Bool, true, false, cond}
 use mathlib.Core.Logic.{_⊎_, inl, inr, ⊎-elim}
-use Prim.Native.Nat.{ℕ, _+_, _-_, _≤_, _<_, _^_}
+use Prim.Native.Nat.{ℕ, _+_, _≤_, _<_}
 use native.Mathlib.Omega.{arith}
 use lib.Dec.{eqb}
 use Rattle.std.specs.shelf.Lists.{length, All}
@@ -11,10 +11,9 @@ use Rattle.std.proofs.shelf.Lists.{getD-past}
 use Rattle.geometry.specs.Within.{Within}
 use Rattle.book.specs.Model.{Model, nodeCount, levelOf, placesOf, placeCount, placeOf, noNode}
 use Rattle.book.specs.declared.place.Entry.{Entry}
-use Rattle.book.specs.declared.place.Place.the-variants.{Filled}
 use Rattle.check.specs.declared.target.Target.the-variants.{Pick as PickTarget, Child}
 use Rattle.check.specs.Targets.{targetAt, targetOf, rootOf}
-use Rattle.check.specs.Accepted.{Accepted, Parent, Stands, InBook, Names}
+use Rattle.check.specs.Accepted.{Accepted, Parent, Stands, InBook}
 use Rattle.search.specs.Tree.{Tree, Sound}
 use Rattle.search.proofs.Tree.{Members, Ordered}
 use Rattle.browse.specs.declared.waiting.Class.{Class}
@@ -23,7 +22,7 @@ use Rattle.browse.specs.Thing.{Thing, opens}
 use Rattle.browse.specs.Tree.{Far, classAt, thing, kidsAs, heightAs, rootThing, treeOf}
 use Rattle.browse.specs.Law.{Monotone, FitsWord, unlimited}
 use Rattle.browse.proofs.Order.{thing-oneway, thing-chain, thing-nearest, thing-nodes, thing-same}
-use Rattle.browse.proofs.Places.{At, Full, at-within, same-entry, all-things}
+use Rattle.browse.proofs.Places.{Full, at-within, same-entry, all-things}
 
 pub two-classes : (c : Class) → (c ≡ Node) ⊎ (c ≡ Pick)
 two-classes Node = inl refl

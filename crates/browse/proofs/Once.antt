@@ -1,11 +1,11 @@
 -- The walk down from the root of an accepted book meets each node just once. So what it meets is the root and what all entries name.
 use mathlib.Core.Path.{_≡_, refl, sym, ap, subst, _∙_}
 use mathlib.Core.Bool.{Bool, true, false, cond, _&&_}
-use mathlib.Core.Logic.{_⊎_, inl, inr, ⊎-elim}
-use Prim.Native.Nat.{ℕ, zero, suc, _+_, _-_, _≤_, _<_}
+use mathlib.Core.Logic.{inl, ⊎-elim}
+use Prim.Native.Nat.{ℕ, zero, suc, _+_, _≤_, _<_}
 use native.Mathlib.Omega.{arith}
 use lib.Dec.{eqb}
-use Rattle.std.specs.shelf.Lists.{List, [], _∷_, length, getD, All, kept-by, joined}
+use Rattle.std.specs.shelf.Lists.{List, [], _∷_, length, All, joined}
 use Rattle.std.proofs.shelf.Tests.{cases-eq, eq-eqb, ne-eqb}
 use Rattle.std.proofs.shelf.Elements.{all-weaker, all-from-getD}
 use Rattle.std.proofs.shelf.Lists.{length-append}
@@ -18,18 +18,18 @@ use Rattle.book.specs.declared.place.Place.the-variants.{Filled, Spoilt}
 use Rattle.check.specs.declared.target.Target.the-variants.{Pick as PickTarget, Child}
 use Rattle.check.specs.Targets.{targetAt, rootOf}
 use Rattle.check.specs.Totals.{totalPlaces}
-use Rattle.check.specs.Accepted.{Accepted, Parent, Stands, Names}
+use Rattle.check.specs.Accepted.{Accepted, Parent, Stands}
 use Rattle.search.specs.Tree.{Tree, below, nodes}
-use Rattle.search.proofs.Lists.{total, Alike, one, total-joined, total-none, total-same, length-total, countBy-total, total-sumBy, alike-length, all-every}
+use Rattle.search.proofs.Lists.{total, Alike, one, total-joined, total-none, total-same, countBy-total, total-sumBy, alike-length, all-every}
 use Rattle.search.proofs.Tree.{below-meets, members-below}
 use Rattle.browse.specs.declared.waiting.Class.{Class}
 use Rattle.browse.specs.declared.waiting.Class.the-variants.{Node, Pick}
 use Rattle.browse.specs.Thing.{Thing, opens}
 use Rattle.browse.specs.Tree.{Far, classAt, thing, things, kidsAs, rootThing, treeOf}
 use Rattle.browse.specs.Law.{Monotone}
-use Rattle.browse.proofs.Places.{At, at-within, same-entry, from, total-things, total-only, length-things}
+use Rattle.browse.proofs.Places.{at-within, from, total-things, total-only, length-things}
 use Rattle.browse.proofs.Members.{Member, two-classes, names-child, in-range, child-in-book, node-number, book-members}
-use Rattle.browse.proofs.Below.{sumBelow, sum-same, sum-ones, sum-list, is, each-once}
+use Rattle.browse.proofs.Below.{sumBelow, sum-ones, sum-list, is, each-once}
 
 -- what the entries of a node name
 abbrev pub thingsIn : Far → book.Node → List Thing

@@ -1,15 +1,16 @@
 -- The things of a list of places.
-use mathlib.Core.Path.{_≡_, refl, sym, ap, subst, _∙_}
-use mathlib.Core.Bool.{Bool, true, false, cond, not}
+use mathlib.Core.Path.{_≡_, refl, ap, _∙_}
+use mathlib.Core.Bool.{Bool, true, false, cond}
 use Prim.Native.Nat.{ℕ, zero, suc, _+_, _≤_, _<_}
 use native.Mathlib.Omega.{arith}
 use Rattle.std.specs.shelf.Lists.{List, [], _∷_, length, getD, All, kept-by}
+use Rattle.std.proofs.shelf.Elements.{all-from-getD}
 use Rattle.book.specs.declared.place.Entry.{Entry}
 use Rattle.book.specs.declared.place.Place.{Place}
 use Rattle.book.specs.declared.place.Place.the-variants.{Filled, Spoilt}
-use Rattle.search.proofs.Lists.{total}
+use Rattle.search.proofs.Lists.{total, total-none}
 use Rattle.browse.specs.declared.waiting.Class.{Class}
-use Rattle.browse.specs.Thing.{Thing, opens}
+use Rattle.browse.specs.Thing.{Thing}
 use Rattle.browse.specs.Tree.{Far, thing, things}
 
 -- the entry e stands at place i
@@ -32,15 +33,12 @@ at-within (p ∷ ps) (suc i) e h = omega (arith, at-within ps i e h)
 pub same-entry : (p : Place) (d e : Entry) → p ≡ Filled d → p ≡ Filled e → d ≡ e
 same-entry p d e h k = cc
 
--- a sum over places
+-- a sum to which one place alone adds
 pub total-only : {X : Type 0} (f : X → ℕ) (xs : List X) (d : X) (i : ℕ) → i < length xs → ((j : ℕ) → j < length xs → (j ≡ i → ⊥) → f (getD xs j d) ≡ 0) →
     total f xs ≡ f (getD xs i d)
 total-only f [] d i l h = absurd (omega arith)
-total-only f (x ∷ xs) d zero l h = omega (arith, total-zero f xs d (λ j k. h (suc j) (omega arith) (λ e. omega (arith, e))))
-  where
-    total-zero : {X : Type 0} (f : X → ℕ) (xs : List X) (d : X) → ((j : ℕ) → j < length xs → f (getD xs j d) ≡ 0) → total f xs ≡ 0
-    total-zero f [] d h = refl
-    total-zero f (x ∷ xs) d h = omega (arith, h 0 (omega arith), total-zero f xs d (λ j k. h (suc j) (omega arith)))
+total-only f (x ∷ xs) d zero l h =
+    omega (arith, total-none f xs (all-from-getD (λ y. f y ≡ 0) xs d (λ j k. h (suc j) (omega arith) (λ e. omega (arith, e)))))
 total-only f (x ∷ xs) d (suc i) l h =
     omega (arith, h 0 (omega arith) (λ e. omega (arith, e)), total-only f xs d i (omega arith) (λ j k n. h (suc j) (omega arith) (λ e. n (omega (arith, e)))))
 

@@ -1,13 +1,13 @@
 -- The ranking of an accepted book is that of its tree, and so are the distances of its nodes.
-use mathlib.Core.Path.{_≡_, refl, sym, ap, subst, _∙_}
+use mathlib.Core.Path.{_≡_, refl, sym, ap, _∙_}
 use mathlib.Core.Bool.{Bool, true, false, cond, not}
-use mathlib.Core.Logic.{inl, inr}
+use mathlib.Core.Logic.{inr}
 use Prim.Native.Nat.{ℕ, _≤_}
 use lib.Dec.{eqb, ltb, leb}
 use Rattle.std.specs.shelf.Lists.{List, [], _∷_, _++_, map, All, kept-by, joined, countBy}
 use Rattle.std.proofs.shelf.Tests.{cond-both}
-use Rattle.std.proofs.shelf.Elements.{all-weaker, all-from-getD, all-kept-by, kept-by-append}
-use Rattle.book.specs.Model.{Model, BookShape, levelOf, placesOf, nodeOf, noNode}
+use Rattle.std.proofs.shelf.Elements.{all-weaker, all-from-getD, kept-by-append}
+use Rattle.book.specs.Model.{Model, BookShape, levelOf, placesOf, noNode}
 use Rattle.book.specs.Model as book
 use Rattle.check.specs.Accepted.{Accepted}
 use Rattle.search.specs.Tree as tree

@@ -4,7 +4,6 @@ use mathlib.Core.Path.{_≡_}
 use mathlib.Core.Bool.{Bool, cond}
 use lib.Dec.{eqb, ltb}
 use Rattle.std.specs.shelf.Lists.{List, [], _∷_, _++_, map, All, joined}
-use Rattle.std.specs.declared.option.Option.{Option}
 use Rattle.std.specs.declared.result.Result.the-variants.{Ok, Err}
 use Rattle.geometry.specs.declared.bounds.Bounds.{Bounds}
 use Rattle.geometry.specs.Within.{Within}
@@ -80,7 +79,7 @@ Lawful m far s turns replies =
     Accepted m → (earlier : List Turn) → standsAfter m far (opening m) earlier ≡ s →
     Browsed m far (earlier ++ turns) (repliesFrom m far (opening m) earlier ++ replies)
 
--- `next` tells the nearest pick not yet told, lower number first, if it is within the limit, and else none.
+-- `next` is answered: by the nearest pick not yet told, lower number first, if it is within the limit, and else by none.
 abbrev pub TellsNearest : Model → Far → Standing Thing → ℕ → Reply → Type 0
 TellsNearest m far s limit reply =
     Accepted m → (earlier : List Turn) → standsAfter m far (opening m) earlier ≡ s →
@@ -94,7 +93,7 @@ Monotone far = (outer inner : Bounds) → Within inner outer → far outer ≤ f
 abbrev pub FitsWord : Far → Type 0
 FitsWord far = (b : Bounds) → far b < 2 ^ 64
 
--- the law stands
+-- the law stands, for every book and measure
 abbrev pub BrowsingIsLawful : Type 0
 BrowsingIsLawful =
     (m : Model) (far : Far) → BookShape m → Monotone far → FitsWord far →
