@@ -1,3 +1,4 @@
 pub mod Limit
 pub mod Command
 pub mod State
+pub mod Say

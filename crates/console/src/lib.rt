@@ -2,4 +2,5 @@
 
 pub mod command;
 pub mod limit;
+pub mod say;
 pub mod state;
