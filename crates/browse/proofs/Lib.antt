@@ -14,3 +14,4 @@ pub mod Collecting
 pub mod Opens
 pub mod Nexts
 pub mod Saying
+pub mod Promises

@@ -9,6 +9,8 @@ use Rattle.geometry.specs.declared.bounds.Bounds.{Bounds}
 use Rattle.geometry.specs.Within.{Within}
 use Rattle.book.specs.Model.{Model, Node, BookShape}
 use Rattle.check.specs.Accepted.{Accepted}
+use Rattle.search.specs.declared.turn.Hand.{Hand}
+use Rattle.search.specs.declared.turn.Call.{Call}
 use Rattle.search.specs.declared.turn.Turn.{Turn}
 use Rattle.search.specs.Waiting.{sorted}
 use Rattle.search.specs.Answer.{Answer, none, rowIn, rowsIn}
@@ -71,6 +73,10 @@ pub record Browsed (m : Model) (far : Far) (turns : List Turn) (replies : List R
   pub unbroken : All Answered replies
   pub ever : (any : List Turn) → All Answered (repliesFrom m far (opening m) any)
   pub obeys : Obeys (field m far) (answers m far) turns (map answerIn replies)
+
+-- one call by one hand
+abbrev pub taken : Hand → Call → Turn
+taken hand call = record { hand = hand; call = call }
 
 -- Of a browse that stands at s: whatever turns of a browse just opened led there, these turns with these replies keep the
 -- law.

@@ -1,4 +1,5 @@
 use mathlib.Core.Path.{_≡_, sym, _∙_, subst}
+use mathlib.Core.List.{map}
 use Prim.Native.Nat.{_<_, _≤_, _+_}
 use native.Mathlib.Omega.{arith}
 use lib.ListN.{length, getD}
@@ -8,6 +9,7 @@ use Rattle.search.specs.declared.turn.Call.the-variants.{Next}
 use Rattle.search.specs.declared.turn.Turn.{Turn}
 use Rattle.browse.specs.Browse.{turned, reply}
 use Rattle.browse.specs.Desk.{standing}
+use Rattle.browse.proofs.Promises.{lawful-replies}
 use Rattle.browse.proofs.Saying.{Saying, says-more, said-all}
 use Rattle.browse.proofs.browse.Browse.take_turns.Needs as need
 
@@ -38,6 +40,10 @@ returns g c =
     let m = g .B·Book .model (b .book) in
     let far = g .M·Measure .distance (b .measure) (b .query) in
     let k = c .loop-turn .inv in
+    let said = said-all m far (standing (b .desk)) (c .args .turns .now) (standing (c .loop-turn .self .desk)) (c .loop-turn .turn-index) (vec-items (c .loop-turn .answers)) (k .0) (omega arith) in
     record {
       parts = (k .1, k .2, k .3);
-      follows = said-all m far (standing (b .desk)) (c .args .turns .now) (standing (c .loop-turn .self .desk)) (c .loop-turn .turn-index) (vec-items (c .loop-turn .answers)) (k .0) (omega arith) }
+      follows = said;
+      law =
+          lawful-replies m far (g .B·Book·met .shape (b .book)) (g .M·Measure·met .monotone (b .measure) (b .query)) (g .M·Measure·met .fits (b .measure) (b .query))
+          (standing (b .desk)) (c .args .turns .now) (map reply (vec-items (c .loop-turn .answers))) (sym (said .0)) }
