@@ -1,6 +1,6 @@
 pub mod Waitings
 pub mod Entering
-pub mod Collecting
 pub mod Opens
+pub mod Collecting
 pub mod Nexts
 pub mod Saying

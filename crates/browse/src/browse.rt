@@ -36,7 +36,12 @@ impl<B: Book, M: Measure> Browse<B, M> {
         ensures opening { λ r. ⌜ standing (r .desk) ≡ opening (B·Book .model book) ⌝ }
     {
         let root = book.node_count() - 1;
-        Browse { book, measure, query, desk: Desk::new(root) }
+        Browse {
+            book,
+            measure,
+            query,
+            desk: Desk::new(root),
+        }
     }
 
     /// The nearest pick not yet told that is no farther than the limit, or the number of a node that is broken, which
@@ -45,14 +50,18 @@ impl<B: Book, M: Measure> Browse<B, M> {
         ensures parts { λ _. ⌜ (now (self .exit) .book ≡ now (self .entry) .book) × (now (self .exit) .measure ≡ now (self .entry) .measure) × (now (self .exit) .query ≡ now (self .entry) .query) ⌝ }
         ensures follows { λ r. ⌜ nextOf (B·Book .model (now (self .entry) .book)) (M·Measure .distance (now (self .entry) .measure) (now (self .entry) .query)) limit (standing (now (self .entry) .desk)) ≡ (nextReply r, standing (now (self .exit) .desk)) ⌝ }
     {
-        follow(&self.book, &self.measure, &self.query, &mut self.desk, limit)
+        let desk = &mut self.desk;
+        follow(&self.book, &self.measure, &self.query, desk, limit)
     }
 
     /// How many rows were told and how many nodes opened.
     pub(crate) fn report(&self) -> Counts
         ensures follows { λ r. ⌜ countsReply r ≡ reportOf (standing (now (self .entry) .desk)) ⌝ }
     {
-        Counts { told: self.desk.told(), opened: self.desk.opened() }
+        Counts {
+            told: self.desk.told(),
+            opened: self.desk.opened(),
+        }
     }
 
     /// The book and the measure come back as they were.
@@ -75,7 +84,11 @@ impl<B: Book, M: Measure> Browse<B, M> {
     }
 
     /// These turns, one after another, and their answers. Where there is no memory for them none is taken.
-    pub(crate) fn take_turns(&mut self, heap: Global, turns: &[Turn]) -> Result<Vec<Answer>, AllocError>
+    pub(crate) fn take_turns(
+        &mut self,
+        heap: Global,
+        turns: &[Turn],
+    ) -> Result<Vec<Answer>, AllocError>
         ensures parts { λ _. ⌜ (now (self .exit) .book ≡ now (self .entry) .book) × (now (self .exit) .measure ≡ now (self .entry) .measure) × (now (self .exit) .query ≡ now (self .entry) .query) ⌝ }
         ensures follows { λ r. ⌜ Cases r (λ v. (map reply (vec-items v) ≡ repliesFrom (B·Book .model (now (self .entry) .book)) (M·Measure .distance (now (self .entry) .measure) (now (self .entry) .query)) (standing (now (self .entry) .desk)) (now (turns .entry))) × (standing (now (self .exit) .desk) ≡ standsAfter (B·Book .model (now (self .entry) .book)) (M·Measure .distance (now (self .entry) .measure) (now (self .entry) .query)) (standing (now (self .entry) .desk)) (now (turns .entry)))) (λ _. standing (now (self .exit) .desk) ≡ standing (now (self .entry) .desk)) ⌝ }
     {
