@@ -17,24 +17,19 @@ use Rattle.browse.specs.Thing.{Thing}
 use Rattle.browse.specs.Tree.{Far, classAt, thing, things}
 use Rattle.browse.specs.Broken.{soundPlace, soundPlaces}
 use Rattle.browse.specs.Opening.{onlyIf, soundKid, soundKids}
+use Rattle.browse.proofs.Opens.{some-or-none, only-if-not, only-if}
 
 module _ (m : Model) (far : Far) (level d : ℕ) where
   unsound : (p : Place) → soundKid m far level d p ≡ None → soundPlace m far level d p ≡ false
   unsound Spoilt e = refl
-  unsound (Filled entry) e = by (soundPlace m far level d (Filled entry)) e
-    where
-      by : (b : Bool) → onlyIf b (thing far (classAt level) entry) ≡ None → b ≡ false
-      by true e = absurd (let z : _≡_ {A = ℕ} 0 1 = cc in omega arith)
-      by false e = refl
+  unsound (Filled entry) e = only-if-not (soundPlace m far level d (Filled entry)) (thing far (classAt level) entry) e
 
   sound : (p : Place) (ps : List Place) (x : Thing) → soundKid m far level d p ≡ Some x →
       (soundPlace m far level d p ≡ true) × (things far (classAt level) (p ∷ ps) ≡ x ∷ things far (classAt level) ps)
-  sound Spoilt ps x e = absurd (let z : _≡_ {A = ℕ} 0 1 = cc in omega arith)
-  sound (Filled entry) ps x e = by (soundPlace m far level d (Filled entry)) e
-    where
-      by : (b : Bool) → onlyIf b (thing far (classAt level) entry) ≡ Some x → (b ≡ true) × (thing far (classAt level) entry ∷ things far (classAt level) ps ≡ x ∷ things far (classAt level) ps)
-      by true e = let f : thing far (classAt level) entry ≡ x = cc in (refl, ap (λ y. y ∷ things far (classAt level) ps) f)
-      by false e = absurd (let z : _≡_ {A = ℕ} 0 1 = cc in omega arith)
+  sound Spoilt ps x e = absurd (some-or-none x (sym e))
+  sound (Filled entry) ps x e =
+      let k = only-if (soundPlace m far level d (Filled entry)) (thing far (classAt level) entry) x e in
+      (k .0, ap (λ y. y ∷ things far (classAt level) ps) (k .1))
 
   module _ (ps : List Place) where
     -- The first i places are sound and name the kids held.
@@ -47,9 +42,6 @@ module _ (m : Model) (far : Far) (level d : ℕ) where
     here i h = drop-cons ps i Spoilt h ∙ ap (λ n. getD ps i Spoilt ∷ drop n ps) (sym (add-one i))
 
     module _ (held : List Thing) (i : ℕ) (inv : Collecting held i) where
-      rest : List Place → Bool → Option (List Thing)
-      rest qs b = onlyIf b (held ++ things far (classAt level) qs)
-
       pub collect-stops : i < length ps → soundKid m far level d (getD ps i Spoilt) ≡ None → None ≡ soundKids m far level d ps
       collect-stops h e =
           let p = getD ps i Spoilt in
@@ -64,11 +56,12 @@ module _ (m : Model) (far : Far) (level d : ℕ) where
           let qs = drop (i + 1) ps in
           let s = sound p qs x e in
           let g : held′ ++ things far (classAt level) qs ≡ held ++ things far (classAt level) (p ∷ qs) =
-            ap (λ l. l ++ things far (classAt level) qs) f ∙ append-assoc held (x ∷ []) (things far (classAt level) qs) ∙ ap (λ l. held ++ l) (sym (s .1)) in
-          ( (λ j. onlyIf (sym (s .0) j && soundPlaces m far level d qs) (g j))
-            ∙ ap (λ l. onlyIf (soundPlaces m far level d l) (held ++ things far (classAt level) l)) (sym (here i h))
-            ∙ inv .0,
-            ap length f ∙ length-push held x ∙ ap (λ n. n + 1) (inv .1) )
+          ap (λ l. l ++ things far (classAt level) qs) f ∙ append-assoc held (x ∷ []) (things far (classAt level) qs) ∙ ap (λ l. held ++ l) (sym (s .1)) in (
+            (λ j. onlyIf (sym (s .0) j && soundPlaces m far level d qs) (g j))
+                ∙ ap (λ l. onlyIf (soundPlaces m far level d l) (held ++ things far (classAt level) l)) (sym (here i h))
+                ∙ inv .0,
+            ap length f ∙ length-push held x ∙ ap (λ n. n + 1) (inv .1),
+          )
 
       pub collect-ends : length ps ≤ i → Some held ≡ soundKids m far level d ps
       collect-ends h =

@@ -29,10 +29,11 @@ pub enters-one : (s : Standing Thing) (ks : List Waiting) (d d′ : Desk) (i : �
     Entering s ks d i → Entering s ks d′ (i + 1)
 enters-one s ks d d′ i z h e u a inv =
     let f : drop i ks ≡ getD ks i z ∷ drop (i + 1) ks = drop-cons ks i z h ∙ (λ j. getD ks i z ∷ drop (sym (add-one i) j) ks) in
-    let o : d′ .opened ≡ d .opened = ap (λ t. t .opened) e in
-    ( ap (withAll (drop (i + 1) ks)) e ∙ ap (λ l. withAll l (standing d)) (sym f) ∙ inv .0,
+    let o : d′ .opened ≡ d .opened = ap (λ t. t .opened) e in (
+      ap (withAll (drop (i + 1) ks)) e ∙ ap (λ l. withAll l (standing d)) (sym f) ∙ inv .0,
       omega (arith, inv .1, u),
-      omega (arith, inv .2, a, o) )
+      omega (arith, inv .2, a, o),
+    )
 
 pub entered-all : (s : Standing Thing) (ks : List Waiting) (d : Desk) (i : ℕ) → length ks ≤ i → Entering s ks d i → standing d ≡ withAll ks s
 entered-all s ks d i h inv = ap (λ l. withAll l (standing d)) (sym (drop-all i ks h)) ∙ inv .0

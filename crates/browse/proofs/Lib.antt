@@ -10,8 +10,8 @@ pub mod Lawful
 pub mod Example
 pub mod Waitings
 pub mod Entering
-pub mod Collecting
 pub mod Opens
+pub mod Collecting
 pub mod Nexts
 pub mod Saying
 pub mod Promises

@@ -1,6 +1,6 @@
 -- What `next` comes to, by what waits first.
 use mathlib.Core.Path.{_≡_, refl, sym, ap, _∙_}
-use mathlib.Core.Bool.{Bool, true, false, true≢false, cond}
+use mathlib.Core.Bool.{Bool, cond}
 use mathlib.Core.List.{List, [], _∷_}
 use Prim.Native.Nat.{ℕ, zero, suc, _+_, _-_, _<_, _≤_}
 use native.Mathlib.Omega.{arith}
@@ -25,33 +25,11 @@ use Rattle.browse.specs.Tree.{Far, classAt, things, kidsAs, treeOf}
 use Rattle.browse.specs.Broken.{canOpen}
 use Rattle.browse.specs.Browse.{Reply, row, nothing, openNode, glanceAt, glance, nextOf}
 use Rattle.browse.specs.Desk.{openedTo}
-use Rattle.browse.specs.Opening.{onlyIf, kidsToOpen}
-use Rattle.browse.proofs.Opens.{can-open-says}
+use Rattle.browse.specs.Opening.{kidsToOpen}
+use Rattle.browse.proofs.Opens.{some-or-none, only-if-not, only-if, can-open-says}
 
 abbrev pub nearest : ℕ → Standing Thing → Option Thing
 nearest limit s = firstWithin (λ x. x .distance) limit (s .waiting)
-
-within : (limit : ℕ) (x : Thing) (w : List Thing) (y : Thing) → firstWithin (λ z. z .distance) limit (x ∷ w) ≡ Some y → (x ≡ y) × (leb (x .distance) limit ≡ true)
-within limit x w y e = by (leb (x .distance) limit) e
-  where
-    by : (b : Bool) → cond b (Some x) None ≡ Some y → (x ≡ y) × (b ≡ true)
-    by true e = let f : x ≡ y = cc in (f, refl)
-    by false e = absurd (let z : _≡_ {A = ℕ} 0 1 = cc in omega arith)
-
-beyond : (limit : ℕ) (x : Thing) (w : List Thing) → firstWithin (λ z. z .distance) limit (x ∷ w) ≡ None → leb (x .distance) limit ≡ false
-beyond limit x w e = by (leb (x .distance) limit) e
-  where
-    by : (b : Bool) → cond b (Some x) None ≡ None → b ≡ false
-    by true e = absurd (let z : _≡_ {A = ℕ} 0 1 = cc in omega arith)
-    by false e = refl
-
-only : {A : Type 0} (b : Bool) (a : A) → onlyIf b a ≡ None → b ≡ false
-only true a e = absurd (let z : _≡_ {A = ℕ} 0 1 = cc in omega arith)
-only false a e = refl
-
-just : {A : Type 0} (b : Bool) (a c : A) → onlyIf b a ≡ Some c → (b ≡ true) × (a ≡ c)
-just true a c e = let f : a ≡ c = cc in (refl, f)
-just false a c e = absurd (let z : _≡_ {A = ℕ} 0 1 = cc in omega arith)
 
 few-things : (far : Far) (c : Class) (ps : List Place) → length (things far c ps) ≤ length ps
 few-things far c [] = omega arith
@@ -79,18 +57,19 @@ module _ (m : Model) (far : Far) (limit : ℕ) (s : Standing Thing) where
     where
       at : (w : List Thing) → firstWithin (λ z. z .distance) limit w ≡ None → glanceAt m far limit s w ≡ done (nothing s) s
       at [] e = refl
-      at (x ∷ w) e = ap (λ b. cond b (cond (opens (x .class)) (openNode m far s x w) (done (Ok (told (row x) (s .opened))) (tellFirst s w))) (done (nothing s) s)) (beyond limit x w e)
+      at (x ∷ w) e = ap (λ b. cond b (cond (opens (x .class)) (openNode m far s x w) (done (Ok (told (row x) (s .opened))) (tellFirst s w))) (done (nothing s) s)) (only-if-not (leb (x .distance) limit) x e)
 
   module _ (x : Thing) (first : nearest limit s ≡ Some x) where
     -- the glance at x, which is within the limit
     seen : (w : List Thing) → firstWithin (λ z. z .distance) limit w ≡ Some x →
         (w ≡ x ∷ behind w) × (glanceAt m far limit s w ≡ cond (opens (x .class)) (openNode m far s x (behind w)) (done (Ok (told (row x) (s .opened))) (tellFirst s (behind w))))
-    seen [] e = absurd (let z : _≡_ {A = ℕ} 0 1 = cc in omega arith)
+    seen [] e = absurd (some-or-none x (sym e))
     seen (y ∷ w) e =
-        let k = within limit y w x e in
-        ( ap (λ z. z ∷ w) (k .0),
-          ap (λ b. cond b (cond (opens (y .class)) (openNode m far s y w) (done (Ok (told (row y) (s .opened))) (tellFirst s w))) (done (nothing s) s)) (k .1)
-          ∙ ap (λ z. cond (opens (z .class)) (openNode m far s z w) (done (Ok (told (row z) (s .opened))) (tellFirst s w))) (k .0) )
+        let k = only-if (leb (y .distance) limit) y x e in (
+          ap (λ z. z ∷ w) (k .1),
+          ap (λ b. cond b (cond (opens (y .class)) (openNode m far s y w) (done (Ok (told (row y) (s .opened))) (tellFirst s w))) (done (nothing s) s)) (k .0)
+              ∙ ap (λ z. cond (opens (z .class)) (openNode m far s z w) (done (Ok (told (row z) (s .opened))) (tellFirst s w))) (k .1),
+        )
 
     by-class : (c : Class) → x .class ≡ c → glance m far limit s ≡ cond (opens c) (openNode m far s x (behind (s .waiting))) (done (Ok (told (row x) (s .opened))) (tellFirst s (behind (s .waiting))))
     by-class c e = seen (s .waiting) first .1 ∙ ap (λ k. cond (opens k) (openNode m far s x (behind (s .waiting))) (done (Ok (told (row x) (s .opened))) (tellFirst s (behind (s .waiting))))) e
@@ -106,18 +85,18 @@ module _ (m : Model) (far : Far) (limit : ℕ) (s : Standing Thing) where
 
     pub next-broken : x .class ≡ Node → kidsToOpen m far s x ≡ None → nextOf m far limit s ≡ (Err (atNode 20 (x .number)), s)
     unfolding opened-or-broken
-    next-broken e f = done-at-once (Err (atNode 20 (x .number))) s (by-class Node e ∙ ap opened-or-broken (only (canOpen m far s x) _ f))
+    next-broken e f = done-at-once (Err (atNode 20 (x .number))) s (by-class Node e ∙ ap opened-or-broken (only-if-not (canOpen m far s x) (things far (classAt (levelOf m (x .number))) (placesOf m (x .number))) f))
 
     pub next-opens : (kids : List Thing) → x .class ≡ Node → kidsToOpen m far s x ≡ Some kids → nextOf m far limit s ≡ nextOf m far limit (openedTo kids s)
     unfolding opened-or-broken
     next-opens kids e f =
-        let k = just (canOpen m far s x) (things far (classAt (levelOf m (x .number))) (placesOf m (x .number))) kids f in
+        let k = only-if (canOpen m far s x) (things far (classAt (levelOf m (x .number))) (placesOf m (x .number))) kids f in
         let t : openFirst (treeOf m far) s x (behind (s .waiting)) ≡ openedTo kids s =
-          ap (λ c. openedTo (kidsAs m far c (x .number)) s) e ∙ ap (λ l. openedTo l s) (k .1) in
+        ap (λ c. openedTo (kidsAs m far c (x .number)) s) e ∙ ap (λ l. openedTo l s) (k .1) in
         goes-on (openedTo kids s) (by-class Node e ∙ ap opened-or-broken (k .0) ∙ ap on t) refl (can-open-says m far s x (k .0) .0)
 
     pub opening-fits : (kids : List Thing) → kidsToOpen m far s x ≡ Some kids → (s .opened < nodeCount m) × (length (s .waiting) + length kids ≤ 2049)
     opening-fits kids f =
-        let k = just (canOpen m far s x) (things far (classAt (levelOf m (x .number))) (placesOf m (x .number))) kids f in
+        let k = only-if (canOpen m far s x) (things far (classAt (levelOf m (x .number))) (placesOf m (x .number))) kids f in
         let c = can-open-says m far s x (k .0) in
         (c .0, omega (arith, c .1, ap length (k .1), few-things far (classAt (levelOf m (x .number))) (placesOf m (x .number))))

@@ -2,9 +2,11 @@
 use mathlib.Core.Path.{_≡_, refl, sym, ap, _∙_}
 use mathlib.Core.Bool.{Bool, true, false, true≢false, _&&_}
 use Prim.Native.Nat.{ℕ, _+_, _<_, _≤_}
+use native.Mathlib.Omega.{arith}
 use lib.Dec.{leb, ltb}
 use lib.ListN.{length}
-use Rattle.std.specs.declared.option.Option.the-variants.{None}
+use Rattle.std.specs.declared.option.Option.{Option}
+use Rattle.std.specs.declared.option.Option.the-variants.{Some, None}
 use Rattle.std.proofs.shelf.Tests.{ltb-true, lt-ltb, le-ltb, leb-true, le-leb, lt-leb}
 use Rattle.book.specs.Model.{Model, nodeCount, levelOf, placesOf, placeCount}
 use Rattle.search.specs.Search.{Standing}
@@ -12,6 +14,17 @@ use Rattle.browse.specs.Thing.{Thing}
 use Rattle.browse.specs.Tree.{Far, classAt, things}
 use Rattle.browse.specs.Broken.{soundPlaces, canOpen}
 use Rattle.browse.specs.Opening.{onlyIf, soundKids, kidsToOpen}
+
+pub some-or-none : {A : Type 0} (a : A) → Some a ≡ None → ⊥
+some-or-none a e = let z : _≡_ {A = ℕ} 0 1 = cc in omega arith
+
+pub only-if-not : {A : Type 0} (b : Bool) (a : A) → onlyIf b a ≡ None → b ≡ false
+only-if-not true a e = absurd (some-or-none a e)
+only-if-not false a e = refl
+
+pub only-if : {A : Type 0} (b : Bool) (a c : A) → onlyIf b a ≡ Some c → (b ≡ true) × (a ≡ c)
+only-if true a c e = let f : a ≡ c = cc in (refl, f)
+only-if false a c e = absurd (some-or-none c (sym e))
 
 module _ (m : Model) (far : Far) (s : Standing Thing) (x : Thing) where
   abbrev sound : Bool

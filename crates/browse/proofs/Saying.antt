@@ -27,15 +27,17 @@ module _ (m : Model) (far : Far) (begin : Standing Thing) (turns : List Turn) wh
         let later = drop (i + 1) turns in
         let d : drop i turns ≡ getD turns i z ∷ later = drop-cons turns i z h ∙ (λ j. getD turns i z ∷ drop (sym (add-one i) j) turns) in
         let e : repliesFrom m far s (drop i turns) ≡ reply a ∷ repliesFrom m far t later = ap (repliesFrom m far s) d ∙ ap (λ p. p .0 ∷ repliesFrom m far (p .1) later) f in
-        let k : standsAfter m far s (drop i turns) ≡ standsAfter m far t later = ap (standsAfter m far s) d ∙ ap (λ p. standsAfter m far (p .1) later) f in
-        ( ap (λ l. l ++ repliesFrom m far t later) (map-append reply said (a ∷ []))
-          ∙ append-assoc (map reply said) (reply a ∷ []) (repliesFrom m far t later)
-          ∙ ap (λ l. map reply said ++ l) (sym e)
-          ∙ inv .0,
-          sym k ∙ inv .1 )
+        let k : standsAfter m far s (drop i turns) ≡ standsAfter m far t later = ap (standsAfter m far s) d ∙ ap (λ p. standsAfter m far (p .1) later) f in (
+          ap (λ l. l ++ repliesFrom m far t later) (map-append reply said (a ∷ []))
+              ∙ append-assoc (map reply said) (reply a ∷ []) (repliesFrom m far t later)
+              ∙ ap (λ l. map reply said ++ l) (sym e)
+              ∙ inv .0,
+          sym k ∙ inv .1,
+        )
 
     pub said-all : length turns ≤ i → (map reply said ≡ repliesFrom m far begin turns) × (s ≡ standsAfter m far begin turns)
     said-all h =
-        let d = drop-all i turns h in
-        ( sym (append-nil (map reply said)) ∙ ap (λ l. map reply said ++ l) (sym (ap (repliesFrom m far s) d)) ∙ inv .0,
-          sym (ap (standsAfter m far s) d) ∙ inv .1 )
+        let d = drop-all i turns h in (
+          sym (append-nil (map reply said)) ∙ ap (λ l. map reply said ++ l) (sym (ap (repliesFrom m far s) d)) ∙ inv .0,
+          sym (ap (standsAfter m far s) d) ∙ inv .1,
+        )

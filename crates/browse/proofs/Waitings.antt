@@ -94,6 +94,7 @@ module _ (x : Waiting) where
     where
       here : cameBefore (x .arrival + 1) (y ∷ l) ≡ true
       here = later (y ∷ l) h
+
       by : cameBefore (x .arrival + 1) (put sooner x l) ≡ true → (b : Bool) → cameBefore (x .arrival + 1) (cond b (y ∷ put sooner x l) (x ∷ y ∷ l)) ≡ true
       by e true = λ i. came (ltb (y .arrival) (x .arrival + 1)) (cameBefore (x .arrival + 1) l) here .0 i && e i
       by e false = λ i. lt-ltb (x .arrival) (x .arrival + 1) (omega arith) i && here i

@@ -35,7 +35,8 @@ abbrev pub standing : Desk → Standing Thing
 standing d = record {
   waiting = map thingOf (queued sooner (d .used) (d .table));
   opened = d .opened;
-  told = d .told }
+  told = d .told;
+}
 
 abbrev pub nodeAt0 : ℕ → Thing
 nodeAt0 n = record { distance = 0; class = Node; number = n; top = pos 0 }

@@ -51,7 +51,8 @@ impl<B: Book, M: Measure> Browse<B, M> {
         ensures law { λ r. ⌜ ((hand : HandOf) → Lawful (B·Book .model (now (self .entry) .book)) (M·Measure .distance (now (self .entry) .measure) (now (self .entry) .query)) (standing (now (self .entry) .desk)) (taken hand (Next limit) ∷ []) (nextReply r ∷ [])) ⌝ }
         ensures nearest { λ r. ⌜ TellsNearest (B·Book .model (now (self .entry) .book)) (M·Measure .distance (now (self .entry) .measure) (now (self .entry) .query)) (standing (now (self .entry) .desk)) limit (nextReply r) ⌝ }
     {
-        follow(&self.book, &self.measure, &self.query, &mut self.desk, limit)
+        let desk = &mut self.desk;
+        follow(&self.book, &self.measure, &self.query, desk, limit)
     }
 
     /// How many rows were told and how many nodes opened.
@@ -59,7 +60,10 @@ impl<B: Book, M: Measure> Browse<B, M> {
         ensures follows { λ r. ⌜ countsReply r ≡ reportOf (standing (now (self .entry) .desk)) ⌝ }
         ensures law { λ r. ⌜ ((hand : HandOf) → Lawful (B·Book .model (now (self .entry) .book)) (M·Measure .distance (now (self .entry) .measure) (now (self .entry) .query)) (standing (now (self .entry) .desk)) (taken hand Report ∷ []) (countsReply r ∷ [])) ⌝ }
     {
-        Counts { told: self.desk.told(), opened: self.desk.opened() }
+        Counts {
+            told: self.desk.told(),
+            opened: self.desk.opened(),
+        }
     }
 
     /// The book and the measure come back as they were.

@@ -25,7 +25,13 @@ fn row_of(pick: Waiting) -> Row
 }
 
 /// Opens what waits first while it is a node within the limit, then tells it if it is a pick within the limit.
-pub(crate) fn follow<B: Book, M: Measure>(book: &B, measure: &M, query: &Bounds, desk: &mut Desk, limit: u64) -> Result<Found, TreeFault>
+pub(crate) fn follow<B: Book, M: Measure>(
+    book: &B,
+    measure: &M,
+    query: &Bounds,
+    desk: &mut Desk,
+    limit: u64,
+) -> Result<Found, TreeFault>
     ensures { λ r. ⌜ nextOf (B·Book .model (now (book .entry))) (M·Measure .distance (now (measure .entry)) (now (query .entry))) limit (standing (now (desk .entry))) ≡ (nextReply r, standing (now (desk .exit))) ⌝ }
 {
     while let Some(first) = desk.first_within(limit) {
@@ -33,7 +39,8 @@ pub(crate) fn follow<B: Book, M: Measure>(book: &B, measure: &M, query: &Bounds,
             Class::Pick => {
                 desk.tell();
                 let row = row_of(first);
-                return Ok(Found::Told { row, opened: desk.opened() });
+                let opened = desk.opened();
+                return Ok(Found::Told { row, opened });
             }
             Class::Node => {
                 let Some(kids) = kids_to_open(book, measure, query, desk, first) else {
@@ -43,5 +50,6 @@ pub(crate) fn follow<B: Book, M: Measure>(book: &B, measure: &M, query: &Bounds,
             }
         }
     }
-    Ok(Found::Nothing { opened: desk.opened() })
+    let opened = desk.opened();
+    Ok(Found::Nothing { opened })
 }

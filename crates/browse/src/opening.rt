@@ -36,7 +36,14 @@ fn right_target<B: Book>(book: &B, level: u8, target: u16) -> bool
 }
 
 /// What the place names, unless it is spoilt, nearer than its node, or names no right target.
-fn sound_kid<B: Book, M: Measure>(book: &B, measure: &M, query: &Bounds, level: u8, nearest: u64, place: Place) -> Option<Waiting>
+fn sound_kid<B: Book, M: Measure>(
+    book: &B,
+    measure: &M,
+    query: &Bounds,
+    level: u8,
+    nearest: u64,
+    place: Place,
+) -> Option<Waiting>
     ensures { λ r. ⌜ oneOf r ≡ soundKid (B·Book .model (now (book .entry))) (M·Measure .distance (now (measure .entry)) (now (query .entry))) level nearest place ⌝ }
 {
     let Place::Filled(entry) = place else {
@@ -56,7 +63,13 @@ fn sound_kid<B: Book, M: Measure>(book: &B, measure: &M, query: &Bounds, level: 
 }
 
 /// What the node's entries name, if all its places are sound.
-fn sound_kids<B: Book, M: Measure>(book: &B, measure: &M, query: &Bounds, node: u16, nearest: u64) -> Option<Kids>
+fn sound_kids<B: Book, M: Measure>(
+    book: &B,
+    measure: &M,
+    query: &Bounds,
+    node: u16,
+    nearest: u64,
+) -> Option<Kids>
     ensures { λ r. ⌜ kidsOf r ≡ soundKids (B·Book .model (now (book .entry))) (M·Measure .distance (now (measure .entry)) (now (query .entry))) (levelOf (B·Book .model (now (book .entry))) node) nearest (placesOf (B·Book .model (now (book .entry))) node) ⌝ }
 {
     let level = book.level(node);
@@ -70,7 +83,13 @@ fn sound_kids<B: Book, M: Measure>(book: &B, measure: &M, query: &Bounds, node: 
 }
 
 /// The kids of the node that waits first, if it can be opened.
-pub(crate) fn kids_to_open<B: Book, M: Measure>(book: &B, measure: &M, query: &Bounds, desk: &Desk, first: Waiting) -> Option<Kids>
+pub(crate) fn kids_to_open<B: Book, M: Measure>(
+    book: &B,
+    measure: &M,
+    query: &Bounds,
+    desk: &Desk,
+    first: Waiting,
+) -> Option<Kids>
     ensures { λ r. ⌜ kidsOf r ≡ kidsToOpen (B·Book .model (now (book .entry))) (M·Measure .distance (now (measure .entry)) (now (query .entry))) (standing (now (desk .entry))) (thingOf first) ⌝ }
 {
     if desk.opened() >= book.node_count() {

@@ -17,7 +17,7 @@ returns-in-Pick g c =
     let far = g .M·Measure .distance (c .args .measure .now) (c .args .query .now) in
     let s = standing (c .loop-first .desk) in
     sym (c .loop-first .inv) ∙ next-pick m far (c .args .limit) s (thingOf (c .in-Some .first)) (sym (c .in-Some .ensures tt)) (c .in-Pick .is)
-    ∙ (λ i. (Ok (told (sym (c .row-of-row .ensures) i) (sym (c .opened .ensures ∙ ap (λ t. t .opened) (c .tell .ensures)) i)), sym (c .tell .ensures) i))
+    ∙ (λ i. (Ok (told (sym (c .row-of-row .ensures) i) (sym (c .opened-opened .ensures ∙ ap (λ t. t .opened) (c .tell .ensures)) i)), sym (c .tell .ensures) i))
 
 pub returns-in-rest-kids-to-open : need.returns-in-rest-kids-to-open
 returns-in-rest-kids-to-open g c =
@@ -37,7 +37,8 @@ open-requires g c κs =
     record {
       some = omega (arith, some-wait m far (c .args .limit) s x first);
       few = omega (arith, fits .0, g .B·Book·met .shape (c .args .book .now) .nodes-most);
-      room = fits .1 }
+      room = fits .1;
+    }
 
 pub loop-first-less : need.loop-first-less
 loop-first-less g c =
@@ -61,4 +62,4 @@ returns g c =
     let m = g .B·Book .model (c .args .book .now) in
     let far = g .M·Measure .distance (c .args .measure .now) (c .args .query .now) in
     let s = standing (c .loop-first .desk) in
-    sym (c .loop-first .inv) ∙ next-none m far (c .args .limit) s (sym (c .in-rest .ensures tt)) ∙ ap (λ n. (Ok (none n), s)) (sym (c .opened-2 .ensures))
+    sym (c .loop-first .inv) ∙ next-none m far (c .args .limit) s (sym (c .in-rest .ensures tt)) ∙ ap (λ n. (Ok (none n), s)) (sym (c .opened-opened-2 .ensures))

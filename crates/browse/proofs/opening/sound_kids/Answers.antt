@@ -16,7 +16,7 @@ returns-in-Break-kid g c =
     let far = g .M·Measure .distance (c .args .measure .now) (c .args .query .now) in
     let n = c .args .node in
     let e : soundKid m far (levelOf m n) (c .args .nearest) (placeOf m n (c .loop-index .index)) ≡ None =
-      (λ j. soundKid m far (sym (c .level-level .ensures) j) (c .args .nearest) (sym (c .place-place .ensures) j)) ∙ sym (c .in-Break-kid .ensures tt) in
+    (λ j. soundKid m far (sym (c .level-level .ensures) j) (c .args .nearest) (sym (c .place-place .ensures) j)) ∙ sym (c .in-Break-kid .ensures tt) in
     ap kidsOf (c .from-residual .ensures)
     ∙ collect-stops m far (levelOf m n) (c .args .nearest) (placesOf m n) (kidsHeld (c .loop-index .kids)) (c .loop-index .index) (c .loop-index .inv) (omega (arith, c .place-count-index-end .ensures)) e
 
@@ -31,7 +31,7 @@ loop-index-again g c =
     let n = c .args .node in
     let x = thingOf (c .in-Continue-kid .kid) in
     let e : soundKid m far (levelOf m n) (c .args .nearest) (placeOf m n (c .loop-index .index)) ≡ Some x =
-      (λ j. soundKid m far (sym (c .level-level .ensures) j) (c .args .nearest) (sym (c .place-place .ensures) j)) ∙ sym (c .in-Continue-kid .ensures tt) in
+    (λ j. soundKid m far (sym (c .level-level .ensures) j) (c .args .nearest) (sym (c .place-place .ensures) j)) ∙ sym (c .in-Continue-kid .ensures tt) in
     collect-on m far (levelOf m n) (c .args .nearest) (placesOf m n) (kidsHeld (c .loop-index .kids)) (c .loop-index .index) (c .loop-index .inv) x (kidsHeld (c .add .last .self))
     (omega (arith, c .place-count-index-end .ensures)) e (c .add .ensures)
 
