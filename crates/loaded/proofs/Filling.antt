@@ -16,7 +16,7 @@ use Rattle.loaded.specs.Decode.{nodeFrom, placeFrom, kindsFrom}
 use Rattle.loaded.specs.Seen.{nodesIn, placesIn, kindsIn, Lawful}
 use Rattle.loaded.proofs.PickKinds.{few-kinds}
 
-length-rows : {A : Type 0} (one : List ℕ → A) (size count : ℕ) (bytes : List ℕ) → length (rows one size count bytes) ≡ count
+pub length-rows : {A : Type 0} (one : List ℕ → A) (size count : ℕ) (bytes : List ℕ) → length (rows one size count bytes) ≡ count
 length-rows one size zero bytes = refl
 length-rows one size (suc n) bytes = ap suc (length-rows one size n (drop size bytes))
 

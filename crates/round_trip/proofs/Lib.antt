@@ -1,0 +1,9 @@
+pub mod Flat
+pub mod Parts
+pub mod NodeParts
+pub mod EntryParts
+pub mod PickParts
+pub mod WrittenLoads
+pub mod LoadedWrites
+pub mod Copies
+pub mod Samples

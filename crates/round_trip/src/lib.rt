@@ -1,0 +1,3 @@
+//! A book through its file form and back.
+
+pub mod copy;
