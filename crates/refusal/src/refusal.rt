@@ -3,18 +3,18 @@
 ghost use mathlib.Core.Path.{_≡_};
 ghost use Rattle.refusal.specs.Told.{told, fileTold, typingTold, joinTold, treeTold, sliceTold};
 use crate::hands::FileFault;
-use crate::hands::JoinFault;
-use crate::hands::SliceFault;
-use crate::hands::TreeFault;
-use crate::hands::TypingFault;
 use crate::hands::FileFaultDebug;
 use crate::hands::FileFaultPartialEq;
+use crate::hands::JoinFault;
 use crate::hands::JoinFaultDebug;
 use crate::hands::JoinFaultPartialEq;
+use crate::hands::SliceFault;
 use crate::hands::SliceFaultDebug;
 use crate::hands::SliceFaultPartialEq;
+use crate::hands::TreeFault;
 use crate::hands::TreeFaultDebug;
 use crate::hands::TreeFaultPartialEq;
+use crate::hands::TypingFault;
 use crate::hands::TypingFaultDebug;
 use crate::hands::TypingFaultPartialEq;
 

@@ -1,0 +1,6 @@
+pub mod Range
+pub mod Bounds
+pub mod Within
+pub mod Gap
+pub mod Distance
+pub mod Nearest

@@ -1,0 +1,4 @@
+pub mod Level
+pub mod Range
+pub mod Read
+pub mod Write

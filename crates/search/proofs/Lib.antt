@@ -1,0 +1,13 @@
+pub mod Lists
+pub mod Waiting
+pub mod Tree
+pub mod Glances
+pub mod Turns
+pub mod Room
+pub mod Search
+pub mod Law
+pub mod Item
+pub mod Ranking
+pub mod Follows
+pub mod Carried
+pub mod Example

@@ -1,0 +1,9 @@
+pub mod Waiting
+pub mod Tree
+pub mod Answer
+pub mod Glances
+pub mod Turns
+pub mod Search
+pub mod Law
+pub mod Lawful
+pub mod Item
