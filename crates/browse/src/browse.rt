@@ -66,6 +66,13 @@ impl<B: Book, M: Measure> Browse<B, M> {
         }
     }
 
+    /// The book that is browsed.
+    pub fn book(&self) -> &B
+        ensures { λ r. ⌜ now r ≡ now (self .entry) .book ⌝ }
+    {
+        &self.book
+    }
+
     /// The book and the measure come back as they were.
     pub fn close(self) -> (B, M)
         ensures { λ r. ⌜ (r .0 ≡ self .book) × (r .1 ≡ self .measure) ⌝ }

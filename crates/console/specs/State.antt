@@ -1,5 +1,7 @@
 -- What a command is answered in each state, and the state after it.
 use Prim.Native.Nat.{ℕ}
+use mathlib.Core.Bool.{Bool, true, false}
+use mathlib.Core.List.{List}
 use Rattle.std.specs.declared.option.Option.{Option}
 use Rattle.std.specs.declared.option.Option.the-variants.{Some, None}
 use Rattle.std.specs.declared.result.Result.{Result}
@@ -9,6 +11,7 @@ use Rattle.geometry.specs.Bounds.{boundsOf}
 use Rattle.geometry.specs.declared.bounds.Point.{Point}
 use Rattle.geometry.specs.declared.bounds.Bounds.{Bounds}
 use Rattle.geometry.specs.declared.choice.Choice.{Choice}
+use Rattle.console.specs.Command.{commandOf}
 use Rattle.console.specs.declared.command.Command.{Command}
 use Rattle.console.specs.declared.command.Command.the-variants.{Open, Next, Report, Close}
 use Rattle.console.specs.declared.state.Act.{Act}
@@ -55,3 +58,23 @@ stateAfter IsOpen (Next limit) = IsOpen
 stateAfter IsOpen Report = IsOpen
 stateAfter IsOpen Close = Ready
 stateAfter NoBook command = NoBook
+
+-- at first
+abbrev pub stateAt : Bool → State
+stateAt true = Ready
+stateAt false = NoBook
+
+abbrev answeredTo : State → Result Command Told → Result Act Told
+answeredTo state (Ok command) = answerIn state command
+answeredTo state (Err refusal) = Err refusal
+
+abbrev afterTo : State → Result Command Told → State
+afterTo state (Ok command) = stateAfter state command
+afterTo state (Err refusal) = state
+
+-- a line is a command before it is anything else
+abbrev pub lineAnswer : State → List ℕ → Result Act Told
+lineAnswer state line = answeredTo state (commandOf line)
+
+abbrev pub lineAfter : State → List ℕ → State
+lineAfter state line = afterTo state (commandOf line)

@@ -2,8 +2,9 @@
 
 ghost use mathlib.Core.Path.{_≡_};
 ghost use Rattle.refusal.specs.Told.{answered, typingTold};
-ghost use Rattle.console.specs.State.{answerIn, stateAfter};
+ghost use Rattle.console.specs.State.{answerIn, stateAfter, stateAt, lineAnswer, lineAfter};
 use crate::command::Command;
+use crate::command::typed_command;
 use geometry::bounds::Bounds;
 use geometry::choice::Choice;
 use refusal::hands::TypingFault;
@@ -30,6 +31,23 @@ pub struct Console {
 }
 
 impl Console {
+    /// An accepted book makes the console ready, a refused one leaves no book.
+    pub fn new(accepted: bool) -> Console
+        ensures { λ r. ⌜ r .state ≡ stateAt accepted ⌝ }
+    {
+        let state = if accepted { State::Ready } else { State::NoBook };
+        Console { state }
+    }
+
+    /// Takes a line, or refuses it: first as a command, then by the state, then for what it asks.
+    pub fn read(&mut self, line: &[u8]) -> Result<Act, TypingFault>
+        ensures answer { λ r. ⌜ answered typingTold r ≡ lineAnswer (now (self .entry) .state) (now (line .entry)) ⌝ }
+        ensures state { λ _. ⌜ now (self .exit) .state ≡ lineAfter (now (self .entry) .state) (now (line .entry)) ⌝ }
+    {
+        let command = typed_command(line)?;
+        self.take(command)
+    }
+
     /// Takes a command, or refuses it: first by the state, then for what it asks.
     pub fn take(&mut self, command: Command) -> Result<Act, TypingFault>
         ensures answer { λ r. ⌜ answered typingTold r ≡ answerIn (now (self .entry) .state) command ⌝ }
