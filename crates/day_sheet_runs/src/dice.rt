@@ -5,17 +5,17 @@ use day_sheet::record::Record;
 use geometry::bounds::Point;
 
 #[derive(Drop)]
-pub struct Dice {
+pub(crate) struct Dice {
     state: u64,
 }
 
 impl Dice {
-    pub fn new() -> Dice {
+    pub(crate) fn new() -> Dice {
         Dice { state: 2025 }
     }
 
     /// A number below `sides`.
-    pub fn roll(&mut self, sides: u32) -> u32
+    pub(crate) fn roll(&mut self, sides: u32) -> u32
         requires { ⌜ 0 < sides ⌝ }
         ensures { λ r. ⌜ r < sides ⌝ }
     {
@@ -31,7 +31,7 @@ impl Dice {
         self.roll(9) as i32 - 4
     }
 
-    pub fn point(&mut self) -> Point {
+    pub(crate) fn point(&mut self) -> Point {
         let easting = self.coordinate();
         let northing = self.coordinate();
         let level = self.coordinate();
@@ -43,7 +43,7 @@ impl Dice {
     }
 
     /// A point with no coordinate below that of `low`.
-    pub fn beyond(&mut self, low: Point) -> Point {
+    pub(crate) fn beyond(&mut self, low: Point) -> Point {
         let easting = low.easting.wrapping_add(self.roll(3) as i32);
         let northing = low.northing.wrapping_add(self.roll(3) as i32);
         let level = low.level.wrapping_add(self.roll(3) as i32);
@@ -65,7 +65,7 @@ impl Dice {
         }
     }
 
-    pub fn fill(&mut self, sheet: &mut [Record]) {
+    pub(crate) fn fill(&mut self, sheet: &mut [Record]) {
         for record in sheet.iter_mut() {
             *record = self.record();
         }

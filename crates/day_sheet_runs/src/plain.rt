@@ -8,21 +8,21 @@ use geometry::bounds::PointPartialEq;
 use refusal::hands::SliceFault;
 
 #[derive(Clone, Copy)]
-pub enum Way {
+pub(crate) enum Way {
     Euclidean,
     Manhattan,
     Chessboard,
 }
 
 /// A row that no shortlist tells.
-pub const BLANK: Row = Row {
+pub(crate) const BLANK: Row = Row {
     distance: u64::MAX,
     place: u8::MAX,
 };
 
 /// The rows of all records in order, and how many of them are to be told.
 #[derive(Drop)]
-pub struct Expected {
+pub(crate) struct Expected {
     rows: [Row; 256],
     count: usize,
 }
@@ -65,7 +65,7 @@ fn settle(rows: &mut [Row; 256], mut at: usize) {
 }
 
 impl Expected {
-    pub fn new(sheet: &[Record], low: Point, high: Point, way: Way, k: usize) -> Expected {
+    pub(crate) fn new(sheet: &[Record], low: Point, high: Point, way: Way, k: usize) -> Expected {
         let mut rows = [BLANK; 256];
         let mut place = 0u8;
         for record in sheet {
@@ -82,7 +82,7 @@ impl Expected {
         }
     }
 
-    pub fn is_told(&self, told: Result<usize, SliceFault>) -> bool {
+    pub(crate) fn is_told(&self, told: Result<usize, SliceFault>) -> bool {
         match told {
             Ok(count) => count == self.count,
             Err(_) => false,
@@ -90,7 +90,7 @@ impl Expected {
     }
 
     /// Whether the rows told are these, and the others as they were.
-    pub fn has_rows(&self, answer: &[Row]) -> bool {
+    pub(crate) fn has_rows(&self, answer: &[Row]) -> bool {
         for (place, row) in answer.iter().enumerate() {
             let wanted = if place < self.count && place < 256 {
                 self.rows[place]
@@ -114,7 +114,7 @@ impl Expected {
     }
 
     /// Whether just the records listed are marked, and nothing else changed.
-    pub fn has_marks(&self, before: &[Record], after: &[Record]) -> bool {
+    pub(crate) fn has_marks(&self, before: &[Record], after: &[Record]) -> bool {
         for (place, (was, is)) in before.iter().zip(after.iter()).enumerate() {
             if is.marked != self.lists(place) || is.kind != was.kind || is.point != was.point {
                 return false;
