@@ -1,4 +1,4 @@
-pub mod Tests
+pub mod Tested
 pub mod Maps
 pub mod Shapes
 pub mod Smallests
@@ -8,3 +8,11 @@ pub mod Offsets
 pub mod Joins
 pub mod Fits
 pub mod Seams
+pub mod Groups
+pub mod Rows
+pub mod Covers
+pub mod Trees
+pub mod Sixteened
+pub mod Collars
+pub mod Tallies
+pub mod Worked

@@ -21,7 +21,7 @@ use Rattle.makes.specs.Tested.{tested}
 use Rattle.makes.specs.Offset.{offsetOf, opposite}
 use Rattle.makes.specs.Shift.{AtOnce}
 use Rattle.makes.specs.declared.offset.Offset.{Offset}
-use Rattle.makes.proofs.Tests.{tested-yes, tested-no}
+use Rattle.makes.proofs.Tested.{tested-yes, tested-no}
 use Rattle.makes.proofs.Shifts.{shift-twice}
 
 -- a number as the code passes it on

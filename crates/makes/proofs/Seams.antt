@@ -27,7 +27,7 @@ use Rattle.makes.specs.declared.seam.Sizes.{Sizes}
 use Rattle.makes.specs.declared.seam.Seam.{Seam}
 use Rattle.makes.specs.declared.seam.Part.{Part}
 use Rattle.makes.specs.declared.seam.Part.the-variants.{Left, Right, Root, Outside}
-use Rattle.makes.proofs.Shapes.{shape-by, targets-of}
+use Rattle.makes.proofs.Shapes.{shape-by, target-named}
 
 empty-node : (n : ℕ) → nodeOf emptyBook n ≡ noNode
 empty-node zero = refl
@@ -181,10 +181,6 @@ target-renumbered own before level most h (Filled f) e t =
     let z : _≡_ {A = ℕ} 0 1 = cc in absurd (omega arith))
     (cases-bool (ltb (f .target) (countAt own level)))
 target-renumbered own before level most h Spoilt e t = let z : _≡_ {A = ℕ} 0 1 = cc in absurd (omega arith)
-
-target-named : (target most : ℕ) (b : Option Bounds) (e : Entry) → target < most → placeFor target b ≡ Filled e → e .target < most
-target-named target most (Some b) e h t = let same : target ≡ e .target = cc in omega (arith, same)
-target-named target most None e h t = let z : _≡_ {A = ℕ} 0 1 = cc in absurd (omega arith)
 
 count-most : (z : Sizes) (level : ℕ) → z .picks ≤ 2048 → z .nodes ≤ 512 → countAt z level ≤ 2048
 count-most z level p n =

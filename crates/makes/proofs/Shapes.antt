@@ -1,7 +1,12 @@
 -- A book's shape, from what its filled places say.
 use Prim.Native.Nat.{ℕ, _<_, _≤_}
 use mathlib.Core.Path.{_≡_, refl}
+use native.Mathlib.Omega.{arith}
+use Rattle.std.specs.declared.option.Option.{Option}
+use Rattle.std.specs.declared.option.Option.the-variants.{Some, None}
 use Rattle.book.specs.Model.{Model, BookShape, nodeCount, pickLimit, levelOf, placeCount, placeOf}
+use Rattle.geometry.specs.declared.bounds.Bounds.{Bounds}
+use Rattle.makes.specs.Places.{placeFor}
 use Rattle.book.specs.declared.place.Entry.{Entry}
 use Rattle.book.specs.declared.place.Place.{Place}
 use Rattle.book.specs.declared.place.Place.the-variants.{Filled, Spoilt}
@@ -27,3 +32,11 @@ shape-by m some nodes picks levels places targets =
       places-most = places;
       targets-fit = λ n i. by-place (placeOf m n i) (λ e p. rw p (targets n i e p)) (λ p. rw p tt);
     }
+
+-- a spoilt place is not filled
+pub never : {P : Type 0} {e : Entry} → Spoilt ≡ Filled e → P
+never e = let z : _≡_ {A = ℕ} 0 1 = cc in absurd (omega arith)
+
+pub target-named : (target most : ℕ) (b : Option Bounds) (e : Entry) → target < most → placeFor target b ≡ Filled e → e .target < most
+target-named target most (Some b) e h t = let same : target ≡ e .target = cc in omega (arith, same)
+target-named target most None e h t = let z : _≡_ {A = ℕ} 0 1 = cc in absurd (omega arith)

@@ -5,3 +5,7 @@ pub mod Offset
 pub mod Shift
 pub mod Join
 pub mod Seam
+pub mod Sixteens
+pub mod Covered
+pub mod Tally
+pub mod Tallies

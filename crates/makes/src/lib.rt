@@ -3,6 +3,10 @@
 pub mod join;
 pub mod offset;
 mod places;
-pub mod seam;
+mod seam;
 pub mod shift;
+pub mod sixteens;
 mod smallest;
+pub mod tally;
+#[cfg(test)]
+mod tests;

@@ -7,14 +7,14 @@ mod parts;
 
 /// How many nodes and picks a book has.
 #[derive(Clone, Copy)]
-pub struct Sizes {
+pub(crate) struct Sizes {
     pub nodes: u16,
     pub picks: u16,
 }
 
 /// The sizes of two books that fit together, and the new root: its level, and the boxes of the old roots.
 #[derive(Clone, Copy)]
-pub struct Seam {
+pub(crate) struct Seam {
     pub left: Sizes,
     pub right: Sizes,
     pub level: u8,
@@ -28,7 +28,7 @@ pub struct Seam {
 
 /// Where a node of a joined book comes from.
 #[derive(Clone, Copy)]
-pub enum Part {
+pub(crate) enum Part {
     Left(u16),
     Right(u16),
     Root,
