@@ -17,10 +17,13 @@ use Rattle.std.specs.declared.result.Result.{Result}
 use Rattle.std.specs.declared.result.Result.the-variants.{Ok, Err}
 use Rattle.refusal.specs.Told.{Told}
 use Rattle.level.specs.Write.{levelText}
-use Rattle.book.specs.Model.{Model}
+use Rattle.book.specs.Model.{Model, nodeCount, pickLimit}
+use Rattle.book.specs.Totals.{totalPlaces}
 use Rattle.file.specs.Encode.{encode}
 use Rattle.loaded.specs.BookW.{bookW, fileW}
 use Rattle.loaded.specs.Decode.{decode}
+use Rattle.makes.specs.Join.{joined}
+use Rattle.makes.specs.Tally.{tallied}
 use Rattle.search.specs.Answer.{none, told, counts}
 use Rattle.browse.specs.declared.answer.Row.{Row}
 use Rattle.browse.specs.Tree.{Far}
@@ -96,6 +99,10 @@ answerNumbers (Err refusal) = refusal .number ∷ []
 abbrev firstNext : ℕ → List ℕ
 firstNext limit = answerNumbers (nextOf bookW far limit (opening bookW) .0)
 
+-- 17 joints of 30 feet, hanging from ground
+abbrev joints : Model
+joints = tallied ground 17 3000
+
 abbrev pub cases : List Case
 cases =
     -- the pick at (300, 400, -35), from ground
@@ -115,6 +122,9 @@ cases =
     -- a first limit of 1,224 opens the root alone; 1,225 tells the first pick
     ∷ case (firstNext 1224) (1 ∷ [])
     ∷ case (firstNext 1225) (0 ∷ 1225 ∷ 2 ∷ [])
+    -- 17 joints make 3 nodes and 19 places; joined to book W, 7 nodes and 21 picks
+    ∷ case (nodeCount joints ∷ totalPlaces joints ∷ []) (3 ∷ 19 ∷ [])
+    ∷ case (nodeCount (joined bookW joints) ∷ pickLimit (joined bookW joints) ∷ []) (7 ∷ 21 ∷ [])
     ∷ []
 
 abbrev pub All-hold : Type 0
