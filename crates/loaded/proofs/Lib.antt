@@ -5,3 +5,6 @@ pub mod Rows
 pub mod PickKinds
 pub mod Decoding
 pub mod Filling
+pub mod Laid
+pub mod Apart
+pub mod Taken

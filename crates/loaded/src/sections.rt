@@ -1,7 +1,7 @@
 //! The sections of a file, each after its count, tested in the order in which they stand.
 
 ghost use mathlib.Core.Path.{_≡_};
-ghost use Prim.Native.Nat.{_+_, _*_, _≤_, _<_};
+ghost use Prim.Native.Nat.{_*_, _≤_, _<_};
 ghost use lib.ListN.{length, drop};
 ghost use Rattle.std.specs.Vec.{made};
 ghost use Rattle.loaded.specs.Reading.{countIn, recordsIn, read};

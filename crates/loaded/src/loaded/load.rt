@@ -3,6 +3,7 @@
 ghost use mathlib.Core.Path.{_≡_};
 ghost use Rattle.refusal.specs.Told.{answered, fileTold};
 ghost use Rattle.loaded.specs.Decode.{decode};
+ghost use Rattle.loaded.specs.Lawful.{TakesLawful};
 ghost use Rattle.loaded.specs.Load.{loadAnswer, heldAfter};
 ghost use Rattle.loaded.specs.Loaded.{loadedModel};
 ghost use Rattle.loaded.specs.Seen.{bookIn, Lawful};
@@ -20,6 +21,7 @@ impl Loaded {
     pub fn load(&mut self, bytes: &[u8]) -> Result<(), FileFault>
         ensures answer { λ r. ⌜ answered fileTold r ≡ loadAnswer (decode (now (bytes .entry))) ⌝ }
         ensures book { λ _. ⌜ loadedModel (now (self .exit)) ≡ heldAfter (decode (now (bytes .entry))) (loadedModel (now (self .entry))) ⌝ }
+        ensures lawful { λ r. ⌜ TakesLawful r (now (bytes .entry)) (loadedModel (now (self .exit))) ⌝ }
     {
         let Sections {
             nodes,
