@@ -21,7 +21,7 @@ use Rattle.file.specs.Encode.{le16, placeRecords, entryRecords, pickRecords, no
 use Rattle.loaded.specs.declared.record.NodeRecord.{NodeRecord}
 use Rattle.loaded.specs.Reading.{read, countIn, recordsIn}
 use Rattle.loaded.specs.Tables.{nodeOf, bookOf, placesOfAll, firstsAddUp, withinLimits, lawfulNodes}
-use Rattle.loaded.specs.Decode.{nodeFrom, placeFrom, nodesFrom, placesFrom, allKinds, kindsFrom, decode, nodeSection as readNodes, entrySection as readEntries, pickSection as readPicks}
+use Rattle.loaded.specs.Decode.{nodeFrom, placeFrom, nodesFrom, placesFrom, allKinds, kindsFrom, decode, threeSections, nodeSection as readNodes, entrySection as readEntries, pickSection as readPicks}
 use Rattle.loaded.proofs.Filling.{length-rows}
 use Rattle.round_trip.specs.RoundTrip.{LoadedWrites}
 use Rattle.round_trip.proofs.Flat.{allPlaces, count-all, records-all, IsFilled, filled-all}
@@ -138,17 +138,19 @@ kept-book {node-records = node-records} {entry-records = entry-records} {pick-re
     }
 
 pub kept : (bytes : List ℕ) (m : Model) → Bytes bytes → decode bytes ≡ Ok m → Kept bytes m
-unfolding decode
+unfolding decode threeSections
 kept bytes m small e =
-    let (rs, past-nodes, read-nodes, e₁) = after-ok (readNodes bytes) _ m e in
-    let (ps, past-entries, read-entries, e₂) = after-ok (readEntries (placesOfAll rs) past-nodes) _ m e₁ in
-    let (ks, past-picks, read-picks, e₃) = after-ok (readPicks past-entries) _ m e₂ in
-    let (ended, is) = tested-ok 1 (eqb (length past-picks) 0) _ m e₃ in
-    let nothing = nil-from-length past-picks (eqb-true (length past-picks) 0 ended) in
+    let (book, past, read-all, e₀) = after-ok (threeSections bytes) _ m e in
+    let (ended, is) = tested-ok 1 (eqb (length past) 0) _ m e₀ in
+    let (rs, past-nodes, read-nodes, e₁) = after-ok (readNodes bytes) _ (read book past) read-all in
+    let (ps, past-entries, read-entries, e₂) = after-ok (readEntries (placesOfAll rs) past-nodes) _ (read book past) e₁ in
+    let (ks, past-picks, read-picks, e₃) = after-ok (readPicks past-entries) _ (read book past) e₂ in
+    let found = read-inj e₃ in
+    let nothing = found .1 ∙ nil-from-length past (eqb-true (length past) 0 ended) in
     let (n, node-records, nodes, nodes-are, nodes-lawful) = nodes-stood bytes rs past-nodes small read-nodes in
     let (p, entry-records, entries, places-are, total) = entries-stood (placesOfAll rs) past-nodes ps past-entries (nodes .small-rest) read-entries in
     let (k, pick-records, picks, kinds-are, kinds-lawful) = picks-stood past-entries ks past-picks (entries .small-rest) read-picks in
-    rw (ok-inj is) at (kept-book rs ps ks nodes nodes-are nodes-lawful entries places-are total picks kinds-are kinds-lawful nothing)
+    rw (found .0 ∙ ok-inj is) at (kept-book rs ps ks nodes nodes-are nodes-lawful entries places-are total picks kinds-are kinds-lawful nothing)
 
 pub loaded-writes : LoadedWrites
 loaded-writes bytes m small e none = kept bytes m small e .same none

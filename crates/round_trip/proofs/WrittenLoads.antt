@@ -16,7 +16,7 @@ use Rattle.file.specs.Encode.{le16, nodeRecords, entryRecords, pickRecords, nod
 use Rattle.file.proofs.Lengths.{length-nodeRecords, length-entryRecords}
 use Rattle.loaded.specs.Reading.{read}
 use Rattle.loaded.specs.Tables.{placesOfAll}
-use Rattle.loaded.specs.Decode.{decode, placesFrom as readPlaces, nodeSection as readNodes, entrySection as readEntries, pickSection as readPicks}
+use Rattle.loaded.specs.Decode.{decode, threeSections, placesFrom as readPlaces, nodeSection as readNodes, entrySection as readEntries, pickSection as readPicks}
 use Rattle.round_trip.specs.RoundTrip.{WrittenLoads}
 use Rattle.round_trip.proofs.Flat.{allPlaces, count-all, records-all, filled-all, fits-all}
 use Rattle.round_trip.proofs.Parts.{count-read, records-read}
@@ -70,7 +70,7 @@ module _ (m : Model) (shape : BookShape m) (few : totalPlaces m ≤ 2048) (none 
       )
 
   loads : decode (encode m) ≡ Ok m
-  unfolding decode
+  unfolding decode threeSections
   loads =
       rw (
         nodes-load (entrySection m ++ pickSection m),
