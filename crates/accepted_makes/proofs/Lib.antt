@@ -1,0 +1,4 @@
+pub mod Enough
+pub mod Roots
+pub mod Copies
+pub mod Joins
