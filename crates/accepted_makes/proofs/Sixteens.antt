@@ -1,7 +1,7 @@
 -- A tree by sixteens over boxes that are all there is accepted.
-use Prim.Native.Nat.{ℕ, _+_, _-_, _*_, _/_, _%_, _<_, _≤_}
+use Prim.Native.Nat.{ℕ, zero, suc, _+_, _-_, _*_, _/_, _%_, _<_, _≤_}
 use mathlib.Core.Path.{_≡_, refl, ap, sym, subst, _∙_}
-use mathlib.Core.Bool.{cond}
+use mathlib.Core.Bool.{Bool, true, cond}
 use mathlib.Core.List.{List}
 use mathlib.Core.Logic.{_⊎_, ⊎-elim}
 use native.Mathlib.Omega.{arith}
@@ -15,11 +15,14 @@ use Rattle.book.specs.declared.kind.Kind.{Kind}
 use Rattle.book.specs.declared.place.Entry.{Entry}
 use Rattle.book.specs.declared.place.Place.the-variants.{Spoilt}
 use Rattle.geometry.specs.declared.bounds.Bounds.{Bounds}
+use Rattle.check.specs.Below.{countBelow}
+use Rattle.check.specs.Names.{isNamed, picksNamed}
 use Rattle.check.specs.Targets.{targetOf, rootOf}
 use Rattle.check.specs.Totals.{totalPlaces}
 use Rattle.check.specs.Accepted.{Stands, Names, InBook, Accepted}
 use Rattle.check.specs.declared.target.Target.{Target}
 use Rattle.check.specs.declared.target.Target.the-variants.{Pick, Child}
+use Rattle.check.proofs.Naming.{named-at}
 use Rattle.check.proofs.Trees.{names-pick, names-child}
 use Rattle.makes.specs.Sixteens.{named, groupCount, group, nodeWith, bySixteens, nodesFor, placesFor}
 use Rattle.makes.proofs.Groups.{above, above-length}
@@ -33,6 +36,15 @@ use Rattle.accepted_makes.proofs.Rows.{full-above, Sits, row-level, row-count,
 
 pick-or-child : {P : Type 0} (a c : ℕ) → Pick a ≡ Child c → P
 pick-or-child a c h = absurd (let z : _≡_ {A = ℕ} 0 1 = cc in omega arith)
+
+count-all : (f : ℕ → Bool) (n : ℕ) → ((k : ℕ) → k < n → f k ≡ true) → countBelow f n ≡ n
+unfolding countBelow
+count-all f zero h = refl
+count-all f (suc n) h =
+    let one : n + 1 ≡ suc n = omega arith in
+    ap (λ z. z + cond (f n) 1 0) (count-all f n (λ k l. h k (omega arith)))
+    ∙ ap (λ b. n + cond b 1 0) (h n (omega arith))
+    ∙ one
 
 module _ (bs : List (Option Bounds)) (ks : List Kind) (some : 0 < length bs) (most : length bs ≤ 1000) (same : length ks ≡ length bs) (full : Full bs) where
   abbrev m : Model
@@ -296,6 +308,19 @@ module _ (bs : List (Option Bounds)) (ks : List Kind) (some : 0 < length bs) (mo
         named = named-all;
         only = only-all;
       })
+
+  -- ---- every pick is named
+
+  named-pick : (p : ℕ) → p < picks → Names m (p / 16) (p % 16) (Pick p)
+  named-pick p h =
+      let a : p / 16 < leaves = omega arith in
+      let x = row-filled m (p / 16) 0 0 (p / 16) bs (leaf-at (p / 16) a) full (p % 16) (omega arith) (omega arith) in
+      let number : x .0 .target ≡ p = omega (arith, leaf-sits (p / 16) a (p % 16) (x .0) (x .1) .number) in
+      (x .0, x .1, leaf-target (p / 16) a (x .0) ∙ ap Pick number)
+
+  pub picks-all : picksNamed m ≡ pickLimit m
+  unfolding picksNamed
+  picks-all = count-all (λ p. isNamed m (Pick p)) (pickLimit m) (λ p h. named-at m (p / 16) (p % 16) (Pick p) (named-pick p (omega (arith, same))))
 
 pub sixteens-accepted : SixteensAccepted
 sixteens-accepted bs ks some most same full = tree-accepted bs ks some most same full

@@ -9,6 +9,9 @@ use lib.ListN.{length, replicate, length-replicate}
 use Rattle.std.specs.declared.option.Option.the-variants.{Some, None}
 use Rattle.std.proofs.shelf.Counted.{getD-map-counting, length-map-counting}
 use Rattle.std.proofs.shelf.Signed.{ints}
+use Rattle.std.specs.declared.result.Result.{Result}
+use Rattle.std.specs.declared.result.Result.the-variants.{Ok, Err}
+use Rattle.book.specs.Model.{Model}
 use Rattle.book.specs.declared.kind.Kind.the-variants.{Collar}
 use Rattle.geometry.specs.Bounds.{boundsAt}
 use Rattle.geometry.specs.Ends.{lowEnds, highEnds}
@@ -17,12 +20,15 @@ use Rattle.geometry.specs.declared.bounds.Point.{Point}
 use Rattle.geometry.specs.declared.bounds.Span.{Span}
 use Rattle.geometry.specs.declared.bounds.Bounds.{Bounds}
 use Rattle.geometry.proofs.Boxes.{box-made}
-use Rattle.makes.specs.Tally.{collarAt, collarBoxes}
+use Rattle.refusal.specs.declared.hands.TreeFault.{TreeFault}
+use Rattle.check.specs.Accepted.{Accepted, Exactly}
+use Rattle.check.specs.Names.{picksNamed}
+use Rattle.makes.specs.Tally.{collarAt, collarBoxes, tallied}
 use Rattle.makes.specs.declared.tally.Tally.{Tally}
 use Rattle.makes.proofs.Collars.{sizes-of, Hung, hung-at, collarBox}
 use Rattle.makes.proofs.Offsets.{ranges}
 use Rattle.accepted_makes.specs.Tallies.{Full, TalliesAccepted}
-use Rattle.accepted_makes.proofs.Sixteens.{sixteens-accepted}
+use Rattle.accepted_makes.proofs.Sixteens.{picks-all, sixteens-accepted}
 
 -- the box of one collar
 module _ (top : Point) (long j : ℕ) (hung : Hung top long j) where
@@ -66,3 +72,30 @@ tallies-accepted top joints long s h =
     let c = collars-count t in
     sixteens-accepted (collarBoxes top joints long) (replicate joints Collar)
     (omega (arith, c, z .some)) (omega (arith, c, z .few)) (length-replicate joints Collar ∙ sym c) (collars-full t)
+
+-- the answer of the check
+pub tally-picks : (t : Tally) → picksNamed (tallied (t .top) (t .joints) (t .length)) ≡ t .joints
+tally-picks t =
+    let z = sizes-of (t .joints) (t .length) (t .sizes) in
+    let c = collars-count t in
+    let l = length-replicate (t .joints) Collar in
+    picks-all (collarBoxes (t .top) (t .joints) (t .length)) (replicate (t .joints) Collar)
+    (omega (arith, c, z .some)) (omega (arith, c, z .few)) (l ∙ sym c) (collars-full t)
+    ∙ l
+
+module _ (t : Tally) where
+  abbrev bookOf : Model
+  bookOf = tallied (t .top) (t .joints) (t .length)
+
+  pub tally-accepted : Accepted bookOf
+  tally-accepted = tallies-accepted (t .top) (t .joints) (t .length) (t .sizes) (t .hung)
+
+  module _ (r : Result ℕ TreeFault) (said : (k : ℕ) → Exactly (r ≡ Ok k) (Accepted bookOf × (k ≡ picksNamed bookOf))) where
+    answer-is : r ≡ Ok (t .joints)
+    answer-is = said (t .joints) .1 (tally-accepted, sym (tally-picks t))
+
+    pub answer-ok : (k : ℕ) → r ≡ Ok k → k ≡ t .joints
+    answer-ok k e = said k .0 e .1 ∙ tally-picks t
+
+    pub answer-err : {P : Type 0} (f : TreeFault) → r ≡ Err f → P
+    answer-err f e = absurd (let y = answer-is in let z : _≡_ {A = ℕ} 0 1 = cc in omega arith)

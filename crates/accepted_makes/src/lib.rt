@@ -3,6 +3,8 @@
 ghost use Rattle.accepted_makes.specs.Joins.{JoinsAccepted};
 ghost use Rattle.accepted_makes.specs.Tallies.{SixteensAccepted, TalliesAccepted};
 
+pub mod tally;
+
 /// Two accepted books that can be joined, with no more places than a browse can let wait, give an accepted book.
 pub fn joins_are_accepted() -> u8
     ensures { λ _. ⌜ JoinsAccepted ⌝ }
