@@ -30,7 +30,7 @@ use Rattle.accepted_makes.proofs.Enough.{Below, NamedChild, Enough, accepted-b
 use Rattle.accepted_makes.proofs.Roots.{Joinable, joinable-says, joined-both, both-count, both-picks, left-node, right-node, root-node, past-node, by-node, both-total}
 use Rattle.accepted_makes.proofs.Copies.{behind, level-copied, names-copied, names-back, filled-copied, below-copied, only-copied, box-copied, holds-copied, peopled-copied}
 
-child-number : (a b : ℕ) → Child a ≡ Child b → a ≡ b
+pub child-number : (a b : ℕ) → Child a ≡ Child b → a ≡ b
 child-number a b h = cc
 
 module _ (l r : Model) (some-l : 0 < nodeCount l) (some-r : 0 < nodeCount r) (al : Accepted l) (ar : Accepted r) (fit : Joinable l r) where
