@@ -107,9 +107,10 @@ module _ (m b : Model) (before : Sizes) (acc : Accepted b)
       let low : c .0 < nodeCount b = omega (arith, x .0) in
       let level : levelOf m (before .nodes + c .0) + 1 ≡ levelOf m (before .nodes + n) = omega (arith, level-copied (c .0) low, level-copied n h, x .1) in
       let holds : Holds m (e .bounds) (before .nodes + c .0) = λ j g t.
-          let y = back (c .0) j g low t in subst (λ (z : Entry). Within (z .bounds) (e .bounds)) (y .2) (x .2 j (y .0) (y .1)) in
-      (ap (λ z. levelOf m z + 1) (sym (c .2)) ∙ level,
-      subst (λ z. Holds m (f .bounds) z) (c .2) (subst (λ (z : Entry). Holds m (z .bounds) (before .nodes + c .0)) (r .2) holds))
+      let y = back (c .0) j g low t in subst (λ (z : Entry). Within (z .bounds) (e .bounds)) (y .2) (x .2 j (y .0) (y .1)) in (
+        ap (λ z. levelOf m z + 1) (sym (c .2)) ∙ level,
+        subst (λ z. Holds m (f .bounds) z) (c .2) (subst (λ (z : Entry). Holds m (z .bounds) (before .nodes + c .0)) (r .2) holds),
+      )
 
   pub only-copied : (t : Target) (n i k j : ℕ) → n < nodeCount b → k < nodeCount b → Names m (before .nodes + n) i t → Names m (before .nodes + k) j t → (before .nodes + n ≡ before .nodes + k) × (i ≡ j)
   only-copied t n i k j h g x y =

@@ -279,17 +279,19 @@ module _ (bs : List (Option Bounds)) (ks : List Kind) (some : 0 < length bs) (mo
       let s = middle-sits more k h i e (x .1) in
       let low = lt-ltb (e .target) leaves (omega (arith, s .number, s .inside, middle-length)) in
       let a : leaves + e .target / 16 ≡ leaves + k = omega (arith, s .number, s .low) in
-      let b : e .target % 16 ≡ i = omega (arith, s .number, s .low) in
-      (ap home is ∙ cond-true (ltb (e .target) leaves) (leaves + e .target / 16) (leaves + middles) low ∙ a,
-      ap seat is ∙ cond-true (ltb (e .target) leaves) (e .target % 16) (e .target - leaves) low ∙ b))
+      let b : e .target % 16 ≡ i = omega (arith, s .number, s .low) in (
+        ap home is ∙ cond-true (ltb (e .target) leaves) (leaves + e .target / 16) (leaves + middles) low ∙ a,
+        ap seat is ∙ cond-true (ltb (e .target) leaves) (e .target % 16) (e .target - leaves) low ∙ b,
+      ))
       (λ many i t x.
       let e = x .0 in
       let is : t ≡ Child (e .target) = sym (x .2) ∙ top-target many e in
       let s = top-sits many i e (x .1) in
       let high = le-ltb (e .target) leaves (omega (arith, s .number)) in
-      let b : e .target - leaves ≡ i = omega (arith, s .number) in
-      (ap home is ∙ cond-false (ltb (e .target) leaves) (leaves + e .target / 16) (leaves + middles) high,
-      ap seat is ∙ cond-false (ltb (e .target) leaves) (e .target % 16) (e .target - leaves) high ∙ b))
+      let b : e .target - leaves ≡ i = omega (arith, s .number) in (
+        ap home is ∙ cond-false (ltb (e .target) leaves) (leaves + e .target / 16) (leaves + middles) high,
+        ap seat is ∙ cond-false (ltb (e .target) leaves) (e .target % 16) (e .target - leaves) high ∙ b,
+      ))
       (λ n h i t x. past-none n i (x .0) h (x .1))
 
   only-all : (t : Target) (n i k j : ℕ) → Names m n i t → Names m k j t → (n ≡ k) × (i ≡ j)

@@ -60,10 +60,11 @@ collars-count t = length-map-counting (collarBox (t .top) (t .length)) 0 (t .joi
 
 collars-full : (t : Tally) → Full (collarBoxes (t .top) (t .joints) (t .length))
 collars-full t j h =
-    let k : j < t .joints = omega (arith, collars-count t) in
-    (boxAt (t .top) (t .length) j (hung-at t j k),
-    getD-map-counting (collarBox (t .top) (t .length)) 0 (t .joints) j j None k (omega arith)
-    ∙ box-is (t .top) (t .length) j (hung-at t j k))
+    let k : j < t .joints = omega (arith, collars-count t) in (
+      boxAt (t .top) (t .length) j (hung-at t j k),
+      getD-map-counting (collarBox (t .top) (t .length)) 0 (t .joints) j j None k (omega arith)
+          ∙ box-is (t .top) (t .length) j (hung-at t j k),
+    )
 
 pub tallies-accepted : TalliesAccepted
 tallies-accepted top joints long s h =
@@ -87,7 +88,7 @@ module _ (t : Tally) where
   abbrev bookOf : Model
   bookOf = tallied (t .top) (t .joints) (t .length)
 
-  pub tally-accepted : Accepted bookOf
+  tally-accepted : Accepted bookOf
   tally-accepted = tallies-accepted (t .top) (t .joints) (t .length) (t .sizes) (t .hung)
 
   module _ (r : Result ℕ TreeFault) (said : (k : ℕ) → Exactly (r ≡ Ok k) (Accepted bookOf × (k ≡ picksNamed bookOf))) where

@@ -1,13 +1,14 @@
 use mathlib.Core.Path.{refl}
-use Rattle.accepted_makes.proofs.Tallies.{tally-accepted, answer-ok, answer-err}
+use Rattle.accepted_makes.proofs.Sixteens.{sixteens-accepted}
+use Rattle.accepted_makes.proofs.Tallies.{tallies-accepted, answer-ok, answer-err}
 use Rattle.accepted_makes.proofs.tally.check_tally.Needs as need
 
 pub returns-in-Ok : need.returns-in-Ok
 returns-in-Ok c =
-    let t = c .args .tally .now in
     record {
-      answer = answer-ok t _ (c .in-Ok .ensures tt .accepts) (c .in-Ok .picks) refl;
-      accepted = tally-accepted t;
+      answer = answer-ok (c .args .tally .now) _ (c .in-Ok .ensures tt .accepts) (c .in-Ok .picks) refl;
+      trees = sixteens-accepted;
+      tallies = tallies-accepted;
     }
 
 pub returns-in-Err : need.returns-in-Err
