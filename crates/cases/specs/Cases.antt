@@ -24,6 +24,7 @@ use Rattle.loaded.specs.BookW.{bookW, fileW}
 use Rattle.loaded.specs.Decode.{decode}
 use Rattle.makes.specs.Join.{joined}
 use Rattle.makes.specs.Tally.{tallied}
+use Rattle.check.specs.Checked.{checked}
 use Rattle.search.specs.Answer.{none, told, counts}
 use Rattle.browse.specs.declared.answer.Row.{Row}
 use Rattle.browse.specs.Tree.{Far}
@@ -103,6 +104,17 @@ firstNext limit = answerNumbers (nextOf bookW far limit (opening bookW) .0)
 abbrev joints : Model
 joints = tallied ground 17 3000
 
+abbrev string : Model
+string = tallied ground 1000 100
+
+abbrev twoStrings : Model
+twoStrings = joined string string
+
+-- the number that refuses a book, 0 where it is accepted
+abbrev checkNumber : Result ℕ Told → ℕ
+checkNumber (Ok picks) = 0
+checkNumber (Err refusal) = refusal .number
+
 abbrev pub cases : List Case
 cases =
     -- the pick at (300, 400, -35), from ground
@@ -125,6 +137,8 @@ cases =
     -- 17 joints make 3 nodes and 19 places; joined to book W, 7 nodes and 21 picks
     ∷ case (nodeCount joints ∷ totalPlaces joints ∷ []) (3 ∷ 19 ∷ [])
     ∷ case (nodeCount (joined bookW joints) ∷ pickLimit (joined bookW joints) ∷ []) (7 ∷ 21 ∷ [])
+    -- two strings of 1,000 joints fit in one book of 137 nodes, which has too many places to be accepted
+    ∷ case (nodeCount twoStrings ∷ checkNumber (checked twoStrings) ∷ []) (137 ∷ 12 ∷ [])
     ∷ []
 
 abbrev pub All-hold : Type 0

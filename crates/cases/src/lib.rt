@@ -9,5 +9,5 @@ pub fn worked_cases() -> usize
     ensures hold { λ _. ⌜ All-hold ⌝ }
     ensures count { λ r. ⌜ r ≡ length cases ⌝ }
 {
-    14
+    15
 }
