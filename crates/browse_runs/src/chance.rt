@@ -7,7 +7,7 @@ pub struct Chance {
 }
 
 impl Chance {
-    pub fn new(seed: u64) -> Chance {
+    pub(crate) fn new(seed: u64) -> Chance {
         Chance { state: seed }
     }
 
@@ -20,7 +20,7 @@ impl Chance {
     }
 
     /// A number below `count`, or 0 where there is none.
-    pub fn below(&mut self, count: u64) -> u64 {
+    pub(crate) fn below(&mut self, count: u64) -> u64 {
         if count == 0 {
             return 0;
         }
@@ -28,12 +28,12 @@ impl Chance {
     }
 
     /// A place in a list of this length.
-    pub fn place(&mut self, length: usize) -> usize {
+    pub(crate) fn place(&mut self, length: usize) -> usize {
         self.below(length as u64) as usize
     }
 
     /// A number from `low` to `high`, both included.
-    pub fn between(&mut self, low: i32, high: i32) -> i32 {
+    pub(crate) fn between(&mut self, low: i32, high: i32) -> i32 {
         let width = i64::from(high)
             .saturating_sub(i64::from(low))
             .saturating_add(1);
@@ -43,7 +43,7 @@ impl Chance {
     }
 
     /// True once in so many times.
-    pub fn once_in(&mut self, times: u64) -> bool {
+    pub(crate) fn once_in(&mut self, times: u64) -> bool {
         self.below(times) == 0
     }
 }

@@ -197,7 +197,7 @@ fn compare_one<B: Book + Drop>(
 }
 
 /// Checks a book, and browses it by each measure. The book comes back.
-pub fn compare<B: Book + Drop>(
+pub(crate) fn compare<B: Book + Drop>(
     heap: Global,
     chance: &mut Chance,
     field: &Field,

@@ -33,7 +33,7 @@ pub struct Field {
 }
 
 impl Corner {
-    pub fn new(easting: i32, northing: i32, level: i32) -> Corner {
+    pub(crate) fn new(easting: i32, northing: i32, level: i32) -> Corner {
         Corner {
             easting,
             northing,
@@ -41,7 +41,7 @@ impl Corner {
         }
     }
 
-    pub fn point(self) -> Point {
+    pub(crate) fn point(self) -> Point {
         Point {
             easting: self.easting,
             northing: self.northing,
@@ -77,7 +77,7 @@ impl Corner {
 }
 
 impl Extent {
-    pub fn of(bounds: &Bounds) -> Extent {
+    pub(crate) fn of(bounds: &Bounds) -> Extent {
         Extent {
             low: Corner::new(bounds.easting.low, bounds.northing.low, bounds.level.low),
             high: Corner::new(bounds.easting.high, bounds.northing.high, bounds.level.high),
@@ -85,7 +85,7 @@ impl Extent {
     }
 
     /// The smallest box around two.
-    pub fn around(self, other: Extent) -> Extent {
+    pub(crate) fn around(self, other: Extent) -> Extent {
         Extent {
             low: self.low.least(other.low),
             high: self.high.most(other.high),
@@ -93,7 +93,7 @@ impl Extent {
     }
 
     /// A box around this one, farther out by up to so much at each end.
-    pub fn loosened(self, chance: &mut Chance, slack: i32) -> Extent {
+    pub(crate) fn loosened(self, chance: &mut Chance, slack: i32) -> Extent {
         Extent {
             low: self.low.pushed(chance, slack.saturating_neg(), 0),
             high: self.high.pushed(chance, 0, slack),
@@ -121,7 +121,7 @@ impl Field {
     }
 
     /// A box of this field; often a point.
-    pub fn draw(&self, chance: &mut Chance) -> Extent {
+    pub(crate) fn draw(&self, chance: &mut Chance) -> Extent {
         let easting = self.coordinate(chance);
         let northing = self.coordinate(chance);
         let level = self.coordinate(chance);

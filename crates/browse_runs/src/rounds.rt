@@ -107,7 +107,7 @@ fn compare_joined(
 }
 
 /// Draws a book of this shape and compares all that is made of it.
-pub fn round(
+pub(crate) fn round(
     heap: Global,
     chance: &mut Chance,
     shape: &Shape,

@@ -76,7 +76,7 @@ impl Scan {
     }
 
     /// Goes through all nodes of a book, whatever their order, then sorts.
-    pub fn of<B: Book>(
+    pub(crate) fn of<B: Book>(
         heap: Global,
         book: &B,
         choice: Choice,
@@ -103,12 +103,12 @@ impl Scan {
         Ok(scan)
     }
 
-    pub fn picks(&self) -> usize {
+    pub(crate) fn picks(&self) -> usize {
         self.ranking.len()
     }
 
     /// The distance of the pick at this place of the ranking.
-    pub fn distance_at(&self, place: usize) -> u64 {
+    pub(crate) fn distance_at(&self, place: usize) -> u64 {
         match self.ranking.get(place) {
             Some(ranked) => ranked.distance,
             None => u64::MAX,
@@ -137,7 +137,7 @@ impl Scan {
     }
 
     /// What `next` must find.
-    pub fn next(&mut self, limit: u64) -> Found {
+    pub(crate) fn next(&mut self, limit: u64) -> Found {
         let first = self.ranking.get(self.told).copied();
         if let Some(ranked) = first {
             if ranked.distance <= limit {
@@ -161,7 +161,7 @@ impl Scan {
     }
 
     /// What `report` must count.
-    pub fn report(&self) -> Counts {
+    pub(crate) fn report(&self) -> Counts {
         Counts {
             told: u16::try_from(self.told).unwrap_or(u16::MAX),
             opened: self.opened(),
@@ -169,7 +169,7 @@ impl Scan {
     }
 
     /// What a turn must be answered.
-    pub fn answer(&mut self, call: Call) -> Answer {
+    pub(crate) fn answer(&mut self, call: Call) -> Answer {
         match call {
             Call::Next(limit) => Answer::Next(Ok(self.next(limit))),
             Call::Report => Answer::Report(self.report()),

@@ -98,7 +98,7 @@ fn drawn_picks(chance: &mut Chance) -> i32 {
 }
 
 impl Shape {
-    pub fn draw(chance: &mut Chance) -> Shape {
+    pub(crate) fn draw(chance: &mut Chance) -> Shape {
         let field = drawn_field(chance);
         let picks = drawn_picks(chance);
         let (narrowest, widest) = drawn_widths(chance, picks);

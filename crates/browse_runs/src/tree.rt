@@ -27,7 +27,7 @@ fn number(place: usize) -> u16 {
 }
 
 /// The numbers below `count` in any order.
-pub fn shuffled(heap: Global, chance: &mut Chance, count: u16) -> Result<Vec<u16>, AllocError> {
+pub(crate) fn shuffled(heap: Global, chance: &mut Chance, count: u16) -> Result<Vec<u16>, AllocError> {
     let mut numbers = Vec::with_capacity(heap, usize::from(count))?;
     for k in 0..count {
         numbers.push(k)?;
@@ -122,7 +122,7 @@ fn level_over(
 }
 
 /// The nodes of a tree, level by level; the last is the root.
-pub fn drawn_tree(
+pub(crate) fn drawn_tree(
     heap: Global,
     chance: &mut Chance,
     shape: &Shape,
