@@ -1,5 +1,7 @@
 //! What a book is: nodes of places, and the kinds of its picks, asked by questions.
 
+#![tactic(auto)]
+
 pub mod book;
 pub mod kind;
 pub mod place;

@@ -1,5 +1,7 @@
 //! Browsing a book: the nearest pick first, then the next, up to a limit.
 
+#![tactic(auto)]
+
 pub mod answer;
 pub mod browse;
 mod desk;

@@ -1,5 +1,7 @@
 //! Browses drawn books and compares every answer with a plain scan. The books are the same in every run.
 
+#![tactic(auto)]
+
 mod chance;
 mod compare;
 mod extent;

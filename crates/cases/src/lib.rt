@@ -1,5 +1,7 @@
 //! The worked cases, shown of the definitions that the contracts cite.
 
+#![tactic(auto)]
+
 ghost use Rattle.std.specs.Prelude.{◌≡◌, length};
 ghost use Rattle.cases.specs.Cases.{cases, All-hold};
 

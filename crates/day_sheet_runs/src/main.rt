@@ -1,5 +1,7 @@
 //! Shortlists of generated sheets, held to a sort written plainly, and the sheets that are refused.
 
+#![tactic(auto)]
+
 ghost use Rattle.std.specs.Prelude.{◌≤◌};
 
 mod dice;

@@ -1,5 +1,7 @@
 //! The file form of a book, and any book put into it.
 
+#![tactic(auto)]
+
 mod entries;
 mod nodes;
 mod picks;

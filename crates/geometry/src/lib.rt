@@ -1,5 +1,7 @@
 //! Coordinates, bounding boxes that cannot be wrong, and how near two boxes are.
 
+#![tactic(auto)]
+
 pub mod around;
 pub mod bounds;
 pub mod chessboard;

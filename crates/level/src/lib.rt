@@ -1,5 +1,7 @@
 //! Levels on paper: hundredths of a foot, written with a point and two digits.
 
+#![tactic(auto)]
+
 pub mod level;
 pub mod range;
 pub mod read;

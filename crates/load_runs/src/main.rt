@@ -1,6 +1,8 @@
 //! Loads damaged files and compares each answer with a plain decoder: every truncation of the sample file, and every
 //! byte of it changed to 0, to 255 and to itself plus one.
 
+#![tactic(auto)]
+
 mod plain;
 
 use crate::plain::{expected, same_book};

@@ -1,5 +1,7 @@
 //! The book that is loaded from a file.
 
+#![tactic(auto)]
+
 mod entries;
 mod limits;
 pub mod loaded;

@@ -1,5 +1,7 @@
 //! Books made from others, and from a casing string.
 
+#![tactic(auto)]
+
 pub mod join;
 pub mod offset;
 mod places;

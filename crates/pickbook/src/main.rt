@@ -1,5 +1,7 @@
 //! Loads and checks the file pick.book, then answers the commands on standard input.
 
+#![tactic(auto)]
+
 mod begin;
 mod held;
 

@@ -1,6 +1,8 @@
 //! Prints the book in the file pick.book on paper: a line for each pick of each leaf. Then writes the book out and says
 //! how many bytes came back equal, and shows a tally, a join and a shift.
 
+#![tactic(auto)]
+
 mod paper;
 
 use crate::paper::{book_line, pick_line};

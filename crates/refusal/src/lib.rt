@@ -1,4 +1,6 @@
 //! Why a call refuses. The numbers are those that the console prints and that crews know by heart.
 
+#![tactic(auto)]
+
 pub mod hands;
 pub mod refusal;

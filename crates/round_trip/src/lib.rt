@@ -1,3 +1,5 @@
 //! A book through its file form and back.
 
+#![tactic(auto)]
+
 pub mod copy;

@@ -2,6 +2,8 @@
 //!
 //! No search runs here. One that answers as these definitions say has the law.
 
+#![tactic(auto)]
+
 ghost use Rattle.search.specs.Item.{SearchIsLawful, NextTellsTheNearest};
 
 pub mod turn;

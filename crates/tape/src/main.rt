@@ -1,6 +1,8 @@
 //! Reads points, one a line as three levels, and prints for each its level, and how far from ground it lies by each
 //! measure.
 
+#![tactic(auto)]
+
 mod reading;
 
 use crate::reading::read_line;
