@@ -8,12 +8,12 @@ use Rattle.book.specs.declared.place.Place.{Place}
 use Rattle.book.specs.declared.place.Place.TheVariants.{Filled, Spoilt}
 use Rattle.geometry.specs.Within.{Within}
 use Rattle.geometry.specs.declared.bounds.Bounds.{Bounds}
-use Rattle.check.specs.Targets.{target_of}
-use Rattle.check.specs.Accepted.{Stands, Names, InBook, Accepted}
-use Rattle.check.specs.declared.target.Target.{Target}
-use Rattle.check.specs.declared.target.Target.TheVariants.{Pick, Child}
-use Rattle.check.proofs.Meaning.{Holds, names_in, one_place, child_at}
-use Rattle.check.proofs.Naming.{place_there}
+use Rattle.book_check.specs.Targets.{target_of}
+use Rattle.book_check.specs.Accepted.{Stands, Names, InBook, Accepted}
+use Rattle.book_check.specs.declared.target.Target.{Target}
+use Rattle.book_check.specs.declared.target.Target.TheVariants.{Pick, Child}
+use Rattle.book_check.proofs.Meaning.{Holds, names_in, one_place, child_at}
+use Rattle.book_check.proofs.Naming.{place_there}
 use Rattle.makes.specs.Join.{sizes_of, count_at, renumbered, renumbered_node, root_of as rootNode, root_box}
 use Rattle.makes.specs.declared.seam.Sizes.{Sizes}
 use Rattle.makes.specs.Seams.{renumbered_count}

@@ -3,12 +3,12 @@ use Rattle.std.proofs.Common.{◌≡◌, ℕ, ◌+◌, ◌<◌, ◌≤◌}
 use Rattle.book.specs.Model.{Model, level_of, place_count, place_of}
 use Rattle.book.specs.declared.place.Entry.{Entry}
 use Rattle.book.specs.declared.place.Place.TheVariants.{Filled}
-use Rattle.check.specs.Targets.{target_of, root_of}
-use Rattle.check.specs.Totals.{total_places}
-use Rattle.check.specs.Accepted.{Stands, Names, InBook, Parent, Accepted}
-use Rattle.check.specs.declared.target.Target.{Target}
-use Rattle.check.specs.declared.target.Target.TheVariants.{Pick, Child}
-use Rattle.check.proofs.Meaning.{Holds}
+use Rattle.book_check.specs.Targets.{target_of, root_of}
+use Rattle.book_check.specs.Totals.{total_places}
+use Rattle.book_check.specs.Accepted.{Stands, Names, InBook, Parent, Accepted}
+use Rattle.book_check.specs.declared.target.Target.{Target}
+use Rattle.book_check.specs.declared.target.Target.TheVariants.{Pick, Child}
+use Rattle.book_check.proofs.Meaning.{Holds}
 
 -- node k is one level lower than node n, and lies in the box of e
 abbrev pub Below : Model → ℕ → Entry → ℕ → Type 0

@@ -6,15 +6,15 @@ use Rattle.book.specs.Model.{Model, BookShape, Node, node_of, node_count, pick_l
 use Rattle.book.specs.declared.place.Entry.{Entry}
 use Rattle.book.specs.declared.place.Place.TheVariants.{Filled, Spoilt}
 use Rattle.geometry.specs.declared.bounds.Bounds.{Bounds}
-use Rattle.check.specs.Targets.{target_of, root_of}
-use Rattle.check.specs.Totals.{total_places}
-use Rattle.check.specs.Accepted.{Stands, Names, InBook, Accepted, Exactly}
-use Rattle.check.specs.Names.{picks_named}
-use Rattle.check.specs.declared.target.Target.{Target}
-use Rattle.check.specs.declared.target.Target.TheVariants.{Pick, Child}
-use Rattle.check.proofs.Meaning.{names_in}
-use Rattle.check.proofs.Naming.{place_there, node_there}
-use Rattle.check.proofs.Trees.{names_child}
+use Rattle.book_check.specs.Targets.{target_of, root_of}
+use Rattle.book_check.specs.Totals.{total_places}
+use Rattle.book_check.specs.Accepted.{Stands, Names, InBook, Accepted, Exactly}
+use Rattle.book_check.specs.Names.{picks_named}
+use Rattle.book_check.specs.declared.target.Target.{Target}
+use Rattle.book_check.specs.declared.target.Target.TheVariants.{Pick, Child}
+use Rattle.book_check.proofs.Meaning.{names_in}
+use Rattle.book_check.proofs.Naming.{place_there, node_there}
+use Rattle.book_check.proofs.Trees.{names_child}
 use Rattle.makes.specs.Join.{sizes_of, nothing, root_of as rootNode, root_box, both_books}
 use Rattle.makes.specs.Places.{place_for}
 use Rattle.makes.specs.Shapes.{never}

@@ -14,7 +14,7 @@ use Rattle.book.specs.declared.place.Place.{Place}
 use Rattle.book.specs.declared.place.Place.TheVariants.{Filled, Spoilt}
 use Rattle.geometry.specs.Within.{Within}
 use Rattle.geometry.specs.declared.bounds.Bounds.{Bounds}
-use Rattle.check.specs.Totals.{total_places}
+use Rattle.book_check.specs.Totals.{total_places}
 use Rattle.makes.specs.Join.{sizes_of, nothing, count_at, renumbered, renumbered_node, root_of, root_boxes, root_box, new_root, both_books, root_empty, roots_apart, joinable, joined}
 use Rattle.makes.specs.Smallest.{smallest, box_of, LiesIn, IsSmallest}
 use Rattle.makes.specs.declared.seam.Sizes.{Sizes}

@@ -4,8 +4,8 @@ use Rattle.book.specs.Model.{Model, Node, node_of, level_of, place_count, place_
 use Rattle.book.specs.declared.place.Entry.{Entry}
 use Rattle.book.specs.declared.place.Place.TheVariants.{Filled, Spoilt}
 use Rattle.geometry.specs.declared.bounds.Bounds.{Bounds}
-use Rattle.check.specs.Accepted.{Stands}
-use Rattle.check.proofs.Naming.{place_there}
+use Rattle.book_check.specs.Accepted.{Stands}
+use Rattle.book_check.proofs.Naming.{place_there}
 use Rattle.makes.specs.Places.{place_for}
 use Rattle.makes.specs.Sixteens.{named, group_count, group, node_with}
 use Rattle.makes.specs.Smallest.{smallest}

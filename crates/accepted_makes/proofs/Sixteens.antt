@@ -7,15 +7,15 @@ use Rattle.book.specs.declared.kind.Kind.{Kind}
 use Rattle.book.specs.declared.place.Entry.{Entry}
 use Rattle.book.specs.declared.place.Place.TheVariants.{Spoilt}
 use Rattle.geometry.specs.declared.bounds.Bounds.{Bounds}
-use Rattle.check.specs.Below.{count_below}
-use Rattle.check.specs.Names.{is_named, picks_named}
-use Rattle.check.specs.Targets.{target_of, root_of}
-use Rattle.check.specs.Totals.{total_places}
-use Rattle.check.specs.Accepted.{Stands, Names, InBook, Accepted}
-use Rattle.check.specs.declared.target.Target.{Target}
-use Rattle.check.specs.declared.target.Target.TheVariants.{Pick, Child}
-use Rattle.check.proofs.Naming.{named_at}
-use Rattle.check.proofs.Trees.{names_pick, names_child}
+use Rattle.book_check.specs.Below.{count_below}
+use Rattle.book_check.specs.Names.{is_named, picks_named}
+use Rattle.book_check.specs.Targets.{target_of, root_of}
+use Rattle.book_check.specs.Totals.{total_places}
+use Rattle.book_check.specs.Accepted.{Stands, Names, InBook, Accepted}
+use Rattle.book_check.specs.declared.target.Target.{Target}
+use Rattle.book_check.specs.declared.target.Target.TheVariants.{Pick, Child}
+use Rattle.book_check.proofs.Naming.{named_at}
+use Rattle.book_check.proofs.Trees.{names_pick, names_child}
 use Rattle.makes.specs.Sixteens.{named, group_count, group, node_with, by_sixteens, nodes_for, places_for}
 use Rattle.makes.specs.Groups.{above, above_length}
 use Rattle.makes.specs.Rows.{leaf_node, middle_node, top_node}

@@ -13,8 +13,8 @@ use Rattle.geometry.specs.declared.bounds.Span.{Span}
 use Rattle.geometry.specs.declared.bounds.Bounds.{Bounds}
 use Rattle.geometry.proofs.Boxes.{box_made}
 use Rattle.refusal.specs.declared.hands.TreeFault.{TreeFault}
-use Rattle.check.specs.Accepted.{Accepted, Exactly}
-use Rattle.check.specs.Names.{picks_named}
+use Rattle.book_check.specs.Accepted.{Accepted, Exactly}
+use Rattle.book_check.specs.Names.{picks_named}
 use Rattle.makes.specs.Tally.{collar_at, collar_boxes, tallied}
 use Rattle.makes.specs.declared.tally.Tally.{Tally}
 use Rattle.makes.specs.Collars.{sizes_of_lem, Hung, hung_at, collar_box}

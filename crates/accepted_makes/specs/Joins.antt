@@ -2,9 +2,9 @@
 use Rattle.std.specs.Prelude.{◌≡◌, ℕ, ◌+◌, ◌≤◌, Ok, Result}
 use Rattle.refusal.specs.declared.hands.TreeFault.{TreeFault}
 use Rattle.book.specs.Model.{Model, BookShape}
-use Rattle.check.specs.Totals.{total_places}
-use Rattle.check.specs.Accepted.{Accepted}
-use Rattle.check.specs.Names.{picks_named}
+use Rattle.book_check.specs.Totals.{total_places}
+use Rattle.book_check.specs.Accepted.{Accepted}
+use Rattle.book_check.specs.Names.{picks_named}
 use Rattle.makes.specs.Join.{joinable, joined}
 
 -- the new root adds two places

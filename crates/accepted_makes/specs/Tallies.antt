@@ -3,7 +3,7 @@ use Rattle.std.specs.Prelude.{◌≡◌, ℕ, ◌<◌, ◌≤◌, true, List, le
 use Rattle.book.specs.declared.kind.Kind.{Kind}
 use Rattle.geometry.specs.declared.bounds.Bounds.{Bounds}
 use Rattle.geometry.specs.declared.bounds.Point.{Point}
-use Rattle.check.specs.Accepted.{Accepted}
+use Rattle.book_check.specs.Accepted.{Accepted}
 use Rattle.makes.specs.Sixteens.{by_sixteens}
 use Rattle.makes.specs.Tally.{sized, hangs, tallied}
 

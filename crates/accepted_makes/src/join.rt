@@ -2,12 +2,12 @@
 
 ghost use Rattle.std.specs.Prelude.{◌≡◌};
 ghost use Rattle.refusal.specs.Told.{answered, tree_told};
-ghost use Rattle.check.specs.Checked.{checked};
+ghost use Rattle.book_check.specs.Checked.{checked};
 ghost use Rattle.makes.specs.Seam.{along};
 ghost use Rattle.accepted_makes.specs.Joins.{JoinsAccepted, NeverRefused};
 
 use book::book::Book;
-use check::scan::check;
+use book_check::scan::check;
 use makes::join::Join;
 use refusal::hands::TreeFault;
 

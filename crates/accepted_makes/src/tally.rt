@@ -3,7 +3,7 @@
 ghost use Rattle.std.specs.Prelude.{◌≡◌};
 ghost use Rattle.accepted_makes.specs.Tallies.{SixteensAccepted, TalliesAccepted};
 
-use check::scan::check;
+use book_check::scan::check;
 use makes::tally::Tally;
 
 /// Checks a casing string. None is refused, and each of its collars is named: the answer is the number of its joints.

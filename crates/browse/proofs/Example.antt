@@ -10,13 +10,13 @@ use Rattle.book.specs.declared.kind.Kind.TheVariants.{CasingTop, Perforation, Ma
 use Rattle.book.specs.declared.place.Place.{Place}
 use Rattle.book.specs.declared.place.Place.TheVariants.{Filled, Spoilt}
 use Rattle.book.specs.Model.{Model, BookShape}
-use Rattle.check.specs.Below.{count_below}
-use Rattle.check.specs.Totals.{total_places}
-use Rattle.check.specs.Names.{names, named_before, is_named, picks_named}
-use Rattle.check.specs.Sound.{sticks_out, sound_target}
-use Rattle.check.specs.Checked.{place_fault, node_fault, tree_fault, checked}
-use Rattle.check.specs.Accepted.{Accepted}
-use Rattle.check.proofs.Meaning.{accepted_exactly}
+use Rattle.book_check.specs.Below.{count_below}
+use Rattle.book_check.specs.Totals.{total_places}
+use Rattle.book_check.specs.Names.{names, named_before, is_named, picks_named}
+use Rattle.book_check.specs.Sound.{sticks_out, sound_target}
+use Rattle.book_check.specs.Checked.{place_fault, node_fault, tree_fault, checked}
+use Rattle.book_check.specs.Accepted.{Accepted}
+use Rattle.book_check.proofs.Meaning.{accepted_exactly}
 use Rattle.search.specs.declared.turn.Hand.TheVariants.{Day, Evening}
 use Rattle.search.specs.declared.turn.Call.TheVariants.{Next, Report}
 use Rattle.search.specs.declared.turn.Turn.{Turn}

@@ -3,7 +3,7 @@ use Rattle.std.proofs.Common.{◌≡◌, ℕ, ◌-◌, Bool, true, false, cond, 
 use Rattle.std.proofs.lemmas.Bool.{cond-true}
 use Rattle.refusal.specs.Told.{at_node}
 use Rattle.book.specs.Model.{Model, BookShape}
-use Rattle.check.specs.Accepted.{Accepted}
+use Rattle.book_check.specs.Accepted.{Accepted}
 use Rattle.search.specs.declared.turn.Call.{Call}
 use Rattle.search.specs.declared.turn.Call.TheVariants.{Next, Report}
 use Rattle.search.specs.declared.turn.Turn.{Turn}

@@ -4,7 +4,7 @@ use Rattle.std.specs.List.{AllByRecursion as All}
 use Rattle.std.proofs.lemmas.List.{append_cancel_left, map-append, same_from_push}
 use Rattle.std.proofs.ByRecursion.{All-map}
 use Rattle.book.specs.Model.{Model, BookShape}
-use Rattle.check.specs.Accepted.{Accepted}
+use Rattle.book_check.specs.Accepted.{Accepted}
 use Rattle.search.specs.declared.turn.Hand.TheVariants.{Day}
 use Rattle.search.specs.declared.turn.Call.TheVariants.{Next}
 use Rattle.search.specs.declared.turn.Turn.{Turn}

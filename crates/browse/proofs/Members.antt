@@ -6,9 +6,9 @@ use Rattle.std.proofs.lemmas.List.{get_or_past}
 use Rattle.geometry.specs.Within.{Within}
 use Rattle.book.specs.Model.{Model, node_count, level_of, places_of, place_count, place_of, no_node}
 use Rattle.book.specs.declared.place.Entry.{Entry}
-use Rattle.check.specs.declared.target.Target.TheVariants.{Pick as PickTarget, Child}
-use Rattle.check.specs.Targets.{target_at, target_of, root_of}
-use Rattle.check.specs.Accepted.{Accepted, Parent, Stands, InBook}
+use Rattle.book_check.specs.declared.target.Target.TheVariants.{Pick as PickTarget, Child}
+use Rattle.book_check.specs.Targets.{target_at, target_of, root_of}
+use Rattle.book_check.specs.Accepted.{Accepted, Parent, Stands, InBook}
 use Rattle.search.specs.Tree.{Tree, Sound}
 use Rattle.search.proofs.Tree.{Members, Ordered}
 use Rattle.browse.specs.declared.waiting.Class.{Class}

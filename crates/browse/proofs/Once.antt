@@ -10,10 +10,10 @@ use Rattle.book.specs.Model as book
 use Rattle.book.specs.declared.place.Entry.{Entry}
 use Rattle.book.specs.declared.place.Place.{Place}
 use Rattle.book.specs.declared.place.Place.TheVariants.{Filled, Spoilt}
-use Rattle.check.specs.declared.target.Target.TheVariants.{Pick as PickTarget, Child}
-use Rattle.check.specs.Targets.{target_at, root_of}
-use Rattle.check.specs.Totals.{total_places}
-use Rattle.check.specs.Accepted.{Accepted, Parent, Stands}
+use Rattle.book_check.specs.declared.target.Target.TheVariants.{Pick as PickTarget, Child}
+use Rattle.book_check.specs.Targets.{target_at, root_of}
+use Rattle.book_check.specs.Totals.{total_places}
+use Rattle.book_check.specs.Accepted.{Accepted, Parent, Stands}
 use Rattle.search.specs.Tree.{Tree, below, nodes}
 use Rattle.search.proofs.Lists.{total, Alike, one, total_joined, total_none, total_same, count_by_total, total_sum_by, alike_length, all_every}
 use Rattle.search.proofs.Tree.{below_meets, members_below}

@@ -5,7 +5,7 @@ use Rattle.book.specs.Model.{Model, BookShape, node_count, pick_limit, level_of,
 use Rattle.book.specs.declared.place.Entry.{Entry}
 use Rattle.book.specs.declared.place.Place.{Place}
 use Rattle.book.specs.declared.place.Place.TheVariants.{Filled, Spoilt}
-use Rattle.check.specs.Accepted.{Accepted, Stands}
+use Rattle.book_check.specs.Accepted.{Accepted, Stands}
 use Rattle.search.proofs.Room.{Held, stand, held_room}
 use Rattle.browse.specs.declared.waiting.Class.TheVariants.{Node, Pick}
 use Rattle.browse.specs.Thing.{Thing, opens}

@@ -6,7 +6,7 @@ use Rattle.std.proofs.lemmas.List.Elements.{filter-append}
 use Rattle.std.proofs.ByRecursion.{All-weaker, All-from_get_or}
 use Rattle.book.specs.Model.{Model, BookShape, level_of, places_of, no_node}
 use Rattle.book.specs.Model as book
-use Rattle.check.specs.Accepted.{Accepted}
+use Rattle.book_check.specs.Accepted.{Accepted}
 use Rattle.search.specs.Tree as tree
 use Rattle.search.proofs.Lists.{total, Alike, all_join}
 use Rattle.search.proofs.Waiting.{map_sorted}

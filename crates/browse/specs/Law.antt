@@ -4,7 +4,7 @@ use Rattle.std.specs.List.{flat_map, AllByRecursion as All}
 use Rattle.geometry.specs.declared.bounds.Bounds.{Bounds}
 use Rattle.geometry.specs.Within.{Within}
 use Rattle.book.specs.Model.{Model, Node, BookShape}
-use Rattle.check.specs.Accepted.{Accepted}
+use Rattle.book_check.specs.Accepted.{Accepted}
 use Rattle.search.specs.declared.turn.Hand.{Hand}
 use Rattle.search.specs.declared.turn.Call.{Call}
 use Rattle.search.specs.declared.turn.Turn.{Turn}

@@ -13,7 +13,7 @@ use Rattle.loaded.specs.BookW.{book_w, file_w}
 use Rattle.loaded.specs.Decode.{decode}
 use Rattle.makes.specs.Join.{joined}
 use Rattle.makes.specs.Tally.{tallied}
-use Rattle.check.specs.Checked.{checked}
+use Rattle.book_check.specs.Checked.{checked}
 use Rattle.search.specs.Answer.{none, told, counts}
 use Rattle.browse.specs.declared.answer.Row.{Row}
 use Rattle.browse.specs.Tree.{Far}

@@ -7,7 +7,7 @@ use Rattle.std.proofs.lemmas.List.{append_assoc, append-nil, map-append, length_
 use Rattle.book.specs.Model.{Model, Node}
 use Rattle.book.specs.declared.place.Place.{Place}
 use Rattle.book.specs.declared.place.Place.TheVariants.{Filled, Spoilt}
-use Rattle.check.specs.Accepted.{Accepted}
+use Rattle.book_check.specs.Accepted.{Accepted}
 use Rattle.search.specs.declared.turn.Hand.TheVariants.{Day}
 use Rattle.search.specs.declared.turn.Call.TheVariants.{Next}
 use Rattle.search.specs.declared.turn.Turn.{Turn}

@@ -5,7 +5,7 @@ use Rattle.geometry.specs.Bounds.{bounds_of}
 use Rattle.geometry.specs.declared.bounds.Bounds.{Bounds}
 use Rattle.geometry.specs.declared.bounds.Point.{Point}
 use Rattle.book.specs.Model.{Model}
-use Rattle.check.specs.Checked.{checked}
+use Rattle.book_check.specs.Checked.{checked}
 use Rattle.loaded.specs.Decode.{decode}
 use Rattle.exported.specs.declared.crossing.QueryPoint.{QueryPoint}
 

@@ -1,7 +1,7 @@
 //! The book in the bytes, and the boxes of the queries.
 
 ghost use Rattle.std.specs.Prelude.{◌≡◌, IfOk, Ok, MatchResult};
-ghost use Rattle.check.specs.Accepted.{Accepted};
+ghost use Rattle.book_check.specs.Accepted.{Accepted};
 ghost use Rattle.geometry.specs.Bounds.{bounds_of};
 ghost use Rattle.loaded.specs.Loaded.{loaded_model};
 ghost use Rattle.exported.specs.Input.{picks_in, book_in, boxes_of, point_of, asked_for};
@@ -9,7 +9,7 @@ ghost use Rattle.exported.specs.Outcome.{FaultOf};
 
 use crate::crossing::QueryPoint;
 use crate::fault::Fault;
-use check::scan::check;
+use book_check::scan::check;
 use geometry::bounds::{Bounds, Point};
 use loaded::loaded::Loaded;
 use refusal::refusal::Refusal;

@@ -1,7 +1,7 @@
 //! The rows of each query, told by a browse.
 
 ghost use Rattle.std.specs.Prelude.{◌≡◌, length, take};
-ghost use Rattle.check.specs.Accepted.{Accepted};
+ghost use Rattle.book_check.specs.Accepted.{Accepted};
 ghost use Rattle.loaded.specs.Loaded.{loaded_model};
 ghost use Rattle.search.specs.Answer.{row_in};
 ghost use Rattle.browse.specs.Browse.{opening, next_reply};

@@ -2,7 +2,7 @@
 use Rattle.std.specs.Prelude.{ℕ, List, Ok, Err, Result}
 use Rattle.refusal.specs.Told.{Told}
 use Rattle.book.specs.Model.{Model}
-use Rattle.check.specs.Checked.{checked}
+use Rattle.book_check.specs.Checked.{checked}
 use Rattle.console.specs.Say.{accepted_line, refused_line}
 use Rattle.console.specs.declared.state.State.{State}
 use Rattle.console.specs.declared.state.State.TheVariants.{NoBook, Ready}

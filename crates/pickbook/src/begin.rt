@@ -7,7 +7,7 @@ ghost use Rattle.loaded.specs.Load.{held_after};
 ghost use Rattle.loaded.specs.Loaded.{loaded_model};
 ghost use Rattle.pickbook.specs.Begin.{judged, first_line, first_state};
 
-use check::scan::check;
+use book_check::scan::check;
 use console::say::{accepted_line, refused_line};
 use console::state::Console;
 use loaded::loaded::Loaded;

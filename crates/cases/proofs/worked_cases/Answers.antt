@@ -7,8 +7,8 @@ use Rattle.loaded.specs.Reading.{count_in, records_in}
 use Rattle.loaded.specs.Decode.{node_section, entry_section, pick_section, three_sections, decode}
 use Rattle.makes.specs.Join.{joined}
 use Rattle.makes.specs.Sixteens.{by_sixteens}
-use Rattle.check.specs.Checked.{tree_fault, checked}
-use Rattle.check.specs.Totals.{total_places}
+use Rattle.book_check.specs.Checked.{tree_fault, checked}
+use Rattle.book_check.specs.Totals.{total_places}
 use Rattle.browse.specs.Broken.{can_open}
 use Rattle.browse.specs.Browse.{next_of}
 use Rattle.cases.proofs.worked_cases.Goals as goal

@@ -1,5 +1,5 @@
 use Rattle.std.proofs.Common.{◌≡◌, Ok, sym, refl, ap, ◌∙◌}
-use Rattle.check.specs.Checked.{checked}
+use Rattle.book_check.specs.Checked.{checked}
 use Rattle.loaded.specs.Decode.{decode}
 use Rattle.loaded.specs.Loaded.{loaded_model}
 use Rattle.exported.specs.Input.{and_then}

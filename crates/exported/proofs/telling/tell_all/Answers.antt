@@ -1,6 +1,6 @@
 use Rattle.std.proofs.Common.{◌≡◌, ℕ, ◌+◌, ◌-◌, ◌≤◌, min, length, take, sym, refl, ap, ◌∙◌, subst, arith, rules}
 use borrow.Rule.Slice.PartMut.{mid_of}
-use Rattle.check.specs.Accepted.{Accepted}
+use Rattle.book_check.specs.Accepted.{Accepted}
 use Rattle.loaded.specs.Loaded.{loaded_model}
 use Rattle.browse.specs.Law.{ranking}
 use Rattle.exported.specs.Rows.{laid}
