@@ -2,13 +2,13 @@ use Rattle.geometry.proofs.Arounds.{lower, higher, around_least, around_ordered,
 use Rattle.geometry.proofs.Spans.{made}
 use Rattle.geometry.proofs.bounds.Span.around.Goals as goal
 
-pub invariant-of-result : goal.invariant-of-result
-invariant-of-result c =
+pub invariant_of-result : goal.invariant_of-result
+invariant_of-result c =
     let s = c.args.self.now in
     let t = c.args.other.now in
     let low = lower s t _ c.min.ensures.value in
     let high = higher s t _ c.max.ensures.value in
-    (around_least s t _ low, (around_ordered s t _ _ low high, (around_most s t _ high, tt)))
+    record { least = around_least s t _ low; ordered = around_ordered s t _ _ low high; most = around_most s t _ high }
 
 pub returns : goal.returns
 returns c =
