@@ -16,7 +16,7 @@ pub loop-index-preserved : goal.loop-index-preserved
 loop-index-preserved g c =
     let m = g.B.Book.model c.args.book.now in
     let within : c.loop-index.index < place_count m c.loop-node.node = omega arith in
-    c.loop-index.invariant ∙ past_filled _ _ _ _ within _ c.in-default.ensures
+    c.loop-index.invariant ∙ past_filled _ _ _ _ within _ c.in_default.ensures
 
 pub loop-node-preserved : goal.loop-node-preserved
 loop-node-preserved g c =
