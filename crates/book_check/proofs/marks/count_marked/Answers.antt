@@ -13,8 +13,8 @@ loop-word-preserved c =
     let h : get_or c.args.words.now c.loop-word.word-index 0 < 2 ^ 64 = search rules in
     count_word c.args.words.now c.loop-word.word-index c.loop-word.total h c.loop-word.invariant
 
-pub overflow-add-total : goal.overflow-add-total
-overflow-add-total c =
+pub overflow_add-total : goal.overflow_add-total
+overflow_add-total c =
     let h : get_or c.args.words.now c.loop-word.word-index 0 < 2 ^ 64 = search rules in
     omega (arith, ones-le 64 (get_or c.args.words.now c.loop-word.word-index 0) h, c.loop-word.invariant, count_most (marked c.args.words.now) (c.loop-word.word-index * 64))
 

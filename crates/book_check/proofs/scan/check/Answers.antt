@@ -13,10 +13,10 @@ use Rattle.book_check.proofs.Scans.{marked_none, has_bit, place_passed, node_pas
 use Rattle.book_check.proofs.scan.check.Goals as goal
 use Rattle.book_check.proofs.scan.check.Goals.{then-loop-node-test+then-node-root+then-places-eq0, then-loop-node-test+else-node-root+then-loop-place-test+in-Err, then-loop-node-test+else-node-root+then-loop-place-test+in-Ok+then-has, else-loop-node-test}
 
-pub returns-then-total-places-gt-MOST-PLACES : goal.returns-then-total-places-gt-MOST-PLACES
-returns-then-total-places-gt-MOST-PLACES g c =
+pub returns-then-total_places-gt-MOST_PLACES : goal.returns-then-total_places-gt-MOST_PLACES
+returns-then-total_places-gt-MOST_PLACES g c =
     let m = g.B.Book.model c.args.book.now in
-    let h : 2048 < total_places m = omega (arith, c.total-places.ensures) in
+    let h : 2048 < total_places m = omega (arith, c.total_places.ensures) in
     let answer = refused m _ (tree_crowded m h) in
     record { answer = answer; accepts = answer_exactly m (Err TooManyPlaces) answer; tree = answer_tree m (Err TooManyPlaces) answer }
 
@@ -43,33 +43,33 @@ pub loop-node-preserved : goal.loop-node-preserved
 loop-node-preserved g c =
     let m = g.B.Book.model c.args.book.now in
     let n = c.loop-node.node in
-    let e : c.loop-place.place ≡ place_count m n = omega (arith, c.place-count-places.ensures) in
-    let f = fertile_from m n c.root-of-root.result c.place-count-places.result c.root-of-root.ensures c.place-count-places.ensures c.else-node-root.either in
+    let e : c.loop-place.place ≡ place_count m n = omega (arith, c.place_count-places.ensures) in
+    let f = fertile_from m n c.root_of-root.result c.place_count-places.result c.root_of-root.ensures c.place_count-places.ensures c.else-node-root.either in
     node_passed m c.loop-place.named n c.loop-place.place f c.loop-place.invariant.0 e c.loop-place.invariant.1
 
 pub returns-in-Some : goal.returns-in-Some
 returns-in-Some g c =
     let m = g.B.Book.model c.args.book.now in
-    let few : total_places m ≤ 2048 = omega (arith, c.total-places.ensures) in
+    let few : total_places m ≤ 2048 = omega (arith, c.total_places.ensures) in
     let n = c.loop-node.node in
     let found : tree_fault m ≡ fault_told c.loop-node-test.fault =
     elim c.loop-node-test.branch [
       | then-loop-node-test+then-node-root+then-places-eq0 w ↦
-          stopped_barren m n few c.loop-node.invariant.0 (omega (arith, c.node-count-nodes.ensures, w.loop-node-test.true)) (omega (arith, c.root-of-root.ensures, w.if-node-root.true)) (omega (arith, w.place-count-places.ensures, w.if-places-eq0.true))
+          stopped_barren m n few c.loop-node.invariant.0 (omega (arith, c.node_count-nodes.ensures, w.loop-node-test.true)) (omega (arith, c.root_of-root.ensures, w.if-node-root.true)) (omega (arith, w.place_count-places.ensures, w.if-places-eq0.true))
           ∙ ap fault_told (sym w.fault-is)
       | then-loop-node-test+else-node-root+then-loop-place-test+in-Err w ↦
-          stopped_unsound m w.loop-place.named n w.loop-place.place _ few c.loop-node.invariant.0 (omega (arith, c.node-count-nodes.ensures, w.loop-node-test.true))
-          (fertile_from m n c.root-of-root.result w.place-count-places.result c.root-of-root.ensures w.place-count-places.ensures w.else-node-root.either)
-          w.loop-place.invariant.1 (omega (arith, w.place-count-places.ensures, w.loop-place-test.true)) w.in-Err.ensures
+          stopped_unsound m w.loop-place.named n w.loop-place.place _ few c.loop-node.invariant.0 (omega (arith, c.node_count-nodes.ensures, w.loop-node-test.true))
+          (fertile_from m n c.root_of-root.result w.place_count-places.result c.root_of-root.ensures w.place_count-places.ensures w.else-node-root.either)
+          w.loop-place.invariant.1 (omega (arith, w.place_count-places.ensures, w.loop-place-test.true)) w.in-Err.ensures
           ∙ ap fault_told (sym w.fault-is)
       | then-loop-node-test+else-node-root+then-loop-place-test+in-Ok+then-has w ↦
-          stopped_twice m w.loop-place.named n w.loop-place.place w.in-Ok.target few c.loop-node.invariant.0 (omega (arith, c.node-count-nodes.ensures, w.loop-node-test.true))
-          (fertile_from m n c.root-of-root.result w.place-count-places.result c.root-of-root.ensures w.place-count-places.ensures w.else-node-root.either)
-          w.loop-place.invariant.1 (omega (arith, w.place-count-places.ensures, w.loop-place-test.true)) w.in-Ok.ensures w.if-has.ensures
+          stopped_twice m w.loop-place.named n w.loop-place.place w.in-Ok.target few c.loop-node.invariant.0 (omega (arith, c.node_count-nodes.ensures, w.loop-node-test.true))
+          (fertile_from m n c.root_of-root.result w.place_count-places.result c.root_of-root.ensures w.place_count-places.ensures w.else-node-root.either)
+          w.loop-place.invariant.1 (omega (arith, w.place_count-places.ensures, w.loop-place-test.true)) w.in-Ok.ensures w.if-has.ensures
           ∙ ap fault_told (sym w.fault-is)
       | else-loop-node-test w ↦
-          sym (scanned_through m c.loop-node.named n few (omega (arith, c.node-count-nodes.ensures, w.loop-node-test.false)) c.loop-node.invariant)
-          ∙ ap (first_unnamed c.loop-node.named) (sym c.root-of-root.ensures) ∙ sym w.first-unnamed-fault.ensures ∙ ap fault_told (sym w.fault-is)
+          sym (scanned_through m c.loop-node.named n few (omega (arith, c.node_count-nodes.ensures, w.loop-node-test.false)) c.loop-node.invariant)
+          ∙ ap (first_unnamed c.loop-node.named) (sym c.root_of-root.ensures) ∙ sym w.first_unnamed-fault.ensures ∙ ap fault_told (sym w.fault-is)
     ] in
     let answer = refused m _ (found ∙ ap fault_told c.in-Some.is) in
     record { answer = answer; accepts = answer_exactly m (Err c.in-Some.fault) answer; tree = answer_tree m (Err c.in-Some.fault) answer }
@@ -77,7 +77,7 @@ returns-in-Some g c =
 pub returns-in-None : goal.returns-in-None
 returns-in-None g c =
     let m = g.B.Book.model c.args.book.now in
-    let few : total_places m ≤ 2048 = omega (arith, c.total-places.ensures) in
+    let few : total_places m ≤ 2048 = omega (arith, c.total_places.ensures) in
     let n = c.loop-node.node in
     let a = c.loop-node.named in
     elim c.loop-node-test.branch [
@@ -85,11 +85,11 @@ returns-in-None g c =
       | then-loop-node-test+else-node-root+then-loop-place-test+in-Err w ↦ absurd (let z : ◌≡◌ {A = ℕ} 0 1 = cc (w.fault-is, c.in-None.is) in omega arith)
       | then-loop-node-test+else-node-root+then-loop-place-test+in-Ok+then-has w ↦ absurd (let z : ◌≡◌ {A = ℕ} 0 1 = cc (w.fault-is, c.in-None.is) in omega arith)
       | else-loop-node-test w ↦
-          let end : n ≡ node_count m = omega (arith, c.node-count-nodes.ensures, w.loop-node-test.false) in
+          let end : n ≡ node_count m = omega (arith, c.node_count-nodes.ensures, w.loop-node-test.false) in
           let none : tree_fault m ≡ None =
           sym (scanned_through m a n few end c.loop-node.invariant)
-          ∙ ap (first_unnamed a) (sym c.root-of-root.ensures) ∙ sym w.first-unnamed-fault.ensures ∙ ap fault_told (sym w.fault-is ∙ c.in-None.is) in
-          let count = c.pick-count.ensures ∙ ap (λ b. count_below (λ p. bit_of b (Pick p)) 2048) w.named-is ∙ count_marked m a n (g.met.B.Book.shape c.args.book.now) end c.loop-node.invariant in
+          ∙ ap (first_unnamed a) (sym c.root_of-root.ensures) ∙ sym w.first_unnamed-fault.ensures ∙ ap fault_told (sym w.fault-is ∙ c.in-None.is) in
+          let count = c.pick_count.ensures ∙ ap (λ b. count_below (λ p. bit_of b (Pick p)) 2048) w.named-is ∙ count_marked m a n (g.met.B.Book.shape c.args.book.now) end c.loop-node.invariant in
           let answer = accepted m _ none count in
-          record { answer = answer; accepts = answer_exactly m (Ok c.pick-count.result) answer; tree = answer_tree m (Ok c.pick-count.result) answer }
+          record { answer = answer; accepts = answer_exactly m (Ok c.pick_count.result) answer; tree = answer_tree m (Ok c.pick_count.result) answer }
     ]

@@ -5,18 +5,18 @@ use Rattle.book.specs.Model.{node_count, no_node}
 use Rattle.book_check.specs.Totals.{total_places}
 use Rattle.book_check.proofs.totals.total_places.Goals as goal
 
-pub overflow-add-total : goal.overflow-add-total
-overflow-add-total g c =
+pub overflow_add-total : goal.overflow_add-total
+overflow_add-total g c =
     let shape = g.met.B.Book.shape c.args.book.now in
-    omega (arith, shape.places_most c.loop-node.node, shape.nodes_most, c.place-count.ensures, c.node-count-node-end.ensures)
+    omega (arith, shape.places_most c.loop-node.node, shape.nodes_most, c.place_count.ensures, c.node_count-node-end.ensures)
 
 pub loop-node-preserved : goal.loop-node-preserved
 loop-node-preserved g c =
     let m = g.B.Book.model c.args.book.now in
     let most = (g.met.B.Book.shape c.args.book.now).places_most c.loop-node.node in
     let within : c.loop-node.node < node_count m = omega arith in (
-      omega (arith, most, c.place-count.ensures),
-      omega (arith, c.place-count.ensures, sum_by_more (λ nd. length nd.places) m.nodes c.loop-node.node no_node within),
+      omega (arith, most, c.place_count.ensures),
+      omega (arith, c.place_count.ensures, sum_by_more (λ nd. length nd.places) m.nodes c.loop-node.node no_node within),
     )
 
 pub returns : goal.returns
