@@ -1,5 +1,5 @@
 -- A book has no fault exactly if it is accepted in the sense of `Accepted`.
-use Rattle.std.proofs.Common.{◌≡◌, ℕ, ◌+◌, ◌-◌, ◌<◌, true, false, not, ◌⊎◌, None, Ok, Err, Result, sym, refl, ap, ◌∙◌, subst, inl, inr, ⊎_elim, arith}
+use Rattle.std.proofs.Common.{◌≡◌, ℕ, ◌+◌, ◌<◌, true, false, not, ◌⊎◌, None, Ok, Err, Result, sym, refl, ap, ◌∙◌, subst, inl, inr, ⊎_elim, arith}
 use Rattle.std.proofs.lemmas.Bool.{both_ways, not-false, not_from_true, ltb-true, lt-ltb, eqb-true, eq-eqb, cases_Bool, cases_lt, cases_order}
 use Rattle.refusal.specs.Told.{at_node, answered, tree_told}
 use Rattle.refusal.specs.declared.hands.TreeFault.{TreeFault}
