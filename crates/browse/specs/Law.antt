@@ -1,6 +1,6 @@
 -- The law of browsing, over a book, the distances of its boxes, turns and answers.
 use Rattle.std.specs.Prelude.{◌≡◌, ℕ, ◌-◌, ◌^◌, ◌<◌, ◌≤◌, Bool, cond, List, [], ◌∷◌, ◌++◌, map, Ok, Err, ◌==◌, nat_lt}
-use Rattle.std.specs.List.{flat_map, AllByRecursion as All}
+use Rattle.std.specs.List.{flat_map, AllByRecursion}
 use Rattle.geometry.specs.declared.bounds.Bounds.{Bounds}
 use Rattle.geometry.specs.Within.{Within}
 use Rattle.book.specs.Model.{Model, Node, BookShape}
@@ -68,8 +68,8 @@ answers m far turns = map answer_in (replies_from m far (opening m) turns)
 -- limit tell exactly the rest, and then nothing; and each count opened is that of the nodes no farther than the greatest
 -- distance told or limit answered none so far.
 pub record Browsed (m : Model) (far : Far) (turns : List Turn) (replies : List Reply) : Type 0 where
-  pub unbroken : All Answered replies
-  pub ever : (any : List Turn) → All Answered (replies_from m far (opening m) any)
+  pub unbroken : AllByRecursion Answered replies
+  pub ever : (any : List Turn) → AllByRecursion Answered (replies_from m far (opening m) any)
   pub obeys : Obeys (field m far) (answers m far) turns (map answer_in replies)
 
 -- one call by one hand

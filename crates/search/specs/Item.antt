@@ -1,6 +1,6 @@
 -- Items, the things of which the law is stated: they have a distance, a class and a number.
 use Rattle.std.specs.Prelude.{ℕ, ◌≤◌, Bool, true, false, ◌&&◌, ◌||◌, List, ◌==◌, nat_lt}
-use Rattle.std.specs.List.{AllByRecursion as All}
+use Rattle.std.specs.List.{AllByRecursion}
 use Rattle.search.specs.Tree.{Tree, below, finals, Sound}
 use Rattle.search.specs.Lawful.{Lawful, NearestIsTold}
 
@@ -33,9 +33,9 @@ item_tree kids height root = record { distance = λ x. x.distance; opens = λ x.
 
 -- for every tree that is sound from its root down, and every limit that none of its finals is beyond
 abbrev pub SearchIsLawful : Type 0
-SearchIsLawful = (kids : Item → List Item) (height : Item → ℕ) (root : Item) → All (Sound (item_tree kids height root)) (below (item_tree kids height root) root) →
-    (unlimited : ℕ) → All (λ x. x.distance ≤ unlimited) (finals (item_tree kids height root)) → Lawful (item_tree kids height root) unlimited
+SearchIsLawful = (kids : Item → List Item) (height : Item → ℕ) (root : Item) → AllByRecursion (Sound (item_tree kids height root)) (below (item_tree kids height root) root) →
+    (unlimited : ℕ) → AllByRecursion (λ x. x.distance ≤ unlimited) (finals (item_tree kids height root)) → Lawful (item_tree kids height root) unlimited
 
 abbrev pub NextTellsTheNearest : Type 0
-NextTellsTheNearest = (kids : Item → List Item) (height : Item → ℕ) (root : Item) → All (Sound (item_tree kids height root)) (below (item_tree kids height root) root) →
+NextTellsTheNearest = (kids : Item → List Item) (height : Item → ℕ) (root : Item) → AllByRecursion (Sound (item_tree kids height root)) (below (item_tree kids height root) root) →
     NearestIsTold (item_tree kids height root)

@@ -1,6 +1,6 @@
 -- The law of search, over turns and their answers: no word of trees, glances or what waits.
 use Rattle.std.specs.Prelude.{◌≡◌, ℕ, ◌≤◌, max, cond, leb, List, [], ◌∷◌, ◌++◌, map, length, Some, None, count_by, Option, nat_le}
-use Rattle.std.specs.List.{ContainsAt as Has, AllByRecursion as All}
+use Rattle.std.specs.List.{ContainsAt as Has, AllByRecursion}
 use Rattle.search.specs.declared.turn.Call.{Call}
 use Rattle.search.specs.declared.turn.Call.TheVariants.{Next, Report}
 use Rattle.search.specs.declared.turn.Turn.{Turn}
@@ -51,7 +51,7 @@ opened_by nodes (Some g) = count_by (λ d. leb d g) nodes
 
 -- What the answer to a call must be, after these rows: a row is within the limit; at none, each row within the limit was told before.
 abbrev pub Fits : {R : Type 0} → Space R → List R → Call → Answer R → Type 0
-Fits p rows (Next limit) (none o) = All (λ r. p.distance r ≤ limit → Has rows r) p.ranking
+Fits p rows (Next limit) (none o) = AllByRecursion (λ r. p.distance r ≤ limit → Has rows r) p.ranking
 Fits p rows (Next limit) (told r o) = p.distance r ≤ limit
 Fits p rows (Next limit) (counts n o) = ⊥
 Fits p rows Report (none o) = ⊥
@@ -77,7 +77,7 @@ pub record Obeys {R : Type 0} (p : Space R) (answers : List Turn → List (Answe
   pub ranked : (rest : List R) × (rows_in qs ++ rest ≡ p.ranking)
   pub fit : AllFit p [] (exchanges turns qs)
   -- as many further turns without limit as rows are left tell just these, one each, and no turn after them tells any
-  pub complete : (rest : List R) → rows_in qs ++ rest ≡ p.ranking → (nexts more : List Turn) → length nexts ≡ length rest → All (Unlimited p) nexts →
+  pub complete : (rest : List R) → rows_in qs ++ rest ≡ p.ranking → (nexts more : List Turn) → length nexts ≡ length rest → AllByRecursion (Unlimited p) nexts →
       map row_in (answers (turns ++ (nexts ++ more))) ≡ map row_in qs ++ (map Some rest ++ map (λ _. None) more)
 
 -- the first of these rows, if it is within the limit

@@ -1,6 +1,6 @@
 -- A tree of things at distances, and its full ranking.
 use Rattle.std.specs.Prelude.{◌≡◌, ℕ, zero, suc, ◌<◌, ◌≤◌, Bool, false, not, List, [], ◌∷◌, filter}
-use Rattle.std.specs.List.{flat_map, AllByRecursion as All}
+use Rattle.std.specs.List.{flat_map, AllByRecursion}
 use Rattle.search.specs.Waiting.{sorted}
 
 -- Some things are nodes, which are opened: their kids then stand in their place. The others are final, and are told.
@@ -33,6 +33,6 @@ ranking t = sorted t.before (finals t)
 
 -- What a thing's kids must be: no nearer than it, lower than it, and none at all if it is final.
 pub record Sound {X : Type 0} (t : Tree X) (x : X) : Type 0 where
-  pub outward : All (λ y. t.distance x ≤ t.distance y) (t.kids x)
-  pub lower : All (λ y. t.height y < t.height x) (t.kids x)
+  pub outward : AllByRecursion (λ y. t.distance x ≤ t.distance y) (t.kids x)
+  pub lower : AllByRecursion (λ y. t.height y < t.height x) (t.kids x)
   pub ends : t.opens x ≡ false → t.kids x ≡ []
