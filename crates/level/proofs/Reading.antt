@@ -1,7 +1,6 @@
 -- What is read of a text, and that a level's own text reads as that level.
-use Rattle.std.proofs.Common.{◌≡◌, ℕ, zero, suc, ◌+◌, ◌-◌, ◌*◌, ◌/◌, ◌%◌, ◌^◌, ◌<◌, ◌≤◌, Bool, true, false, cond, ◌&&◌, eqb, List, [], ◌∷◌, ◌++◌, length, get_or, take, drop, ℤ, pos, negsuc, neg_ℤ, Ok, Err, decimal, Decides, Result, sym, refl, ap, ◌∙◌, subst, pow-suc, add-one, arith, lit<, length-append, w32, SFits}
+use Rattle.std.proofs.Common.{◌≡◌, ℕ, zero, suc, ◌+◌, ◌-◌, ◌*◌, ◌/◌, ◌%◌, ◌^◌, ◌<◌, ◌≤◌, Bool, true, false, cond, ◌&&◌, eqb, List, [], ◌∷◌, ◌++◌, length, get_or, take, drop, ℤ, pos, negsuc, neg_ℤ, Ok, Err, decimal, Decides, Result, sym, refl, ap, ◌∙◌, subst, pow-suc, add-one, arith, lit<, w32, SFits}
 use native.Mathlib.Nat.{pow-le-pow_right}
-use lib.Signed.{le_z}
 use Rattle.std.specs.Char.{is_ascii_digit}
 use Rattle.std.specs.Str.{bytes_eq}
 use Rattle.std.proofs.lemmas.Bool.Decides.{nat_tests, Decides-and}
@@ -9,7 +8,7 @@ use Rattle.std.proofs.lemmas.Slice.Eq.{bytes_eq-Decides}
 use Rattle.std.proofs.lemmas.List.{get_or_append_left, at_drop_more, at_drop_all}
 use Rattle.std.proofs.lemmas.Fmt.{decimal_by_steps, decimal_digit, decimal_nonempty, first_decimal, length-decimal-le}
 use Rattle.refusal.specs.Told.{Told, plain}
-use Rattle.level.specs.Range.{level_least, level_most, is_level}
+use Rattle.level.specs.Range.{is_level}
 use Rattle.level.specs.Write.{hundredths_text, level_text, writes, written}
 use Rattle.level.specs.Read.{longest_text, with_byte, digits_spell, spelt, reads, TextOf, ReadingLaw, RoundTrip, NoTwoShareAText}
 use Rattle.level.proofs.Writing.{length_hundredths, text_first, room_enough}

@@ -3,8 +3,8 @@ use Rattle.level.proofs.Writing.{length_one, length_step, first_digit, last_digi
 use Rattle.level.proofs.write.+put_digits.Goals as goal
 use Rattle.level.proofs.write.+put_digits.Goals.{then-whole-lt10, else-whole-lt10}
 
-pub put-digits-end-requires : goal.put-digits-end-requires
-put-digits-end-requires t c = let e = length_step c.args.whole c.if-whole-lt10.false (omega arith) in (omega arith, omega arith)
+pub put_digits-end-requires : goal.put_digits-end-requires
+put_digits-end-requires t c = let e = length_step c.args.whole c.if-whole-lt10.false (omega arith) in (omega arith, omega arith)
 
 pub bounds-out-end : goal.bounds-out-end
 bounds-out-end t c =
@@ -13,8 +13,8 @@ bounds-out-end t c =
       | else-whole-lt10 w ↦ omega (arith, length_step c.args.whole w.if-whole-lt10.false (omega arith))
     ]
 
-pub overflow-add-result : goal.overflow-add-result
-overflow-add-result t c =
+pub overflow_add-result : goal.overflow_add-result
+overflow_add-result t c =
     elim c.if-whole-lt10.branch [
       | then-whole-lt10 w ↦ omega (arith, length_one c.args.whole w.if-whole-lt10.true)
       | else-whole-lt10 w ↦ omega (arith, length_step c.args.whole w.if-whole-lt10.false (omega arith))
@@ -29,7 +29,7 @@ returns t c =
       | else-whole-lt10 w ↦
           let e = length_step c.args.whole w.if-whole-lt10.false (omega arith) in
           record {
-            bytes = last_digit _ _ _ _ _ w.if-whole-lt10.false (omega arith) (w.out-is ∙ w.put-digits-end.ensures.bytes) (w.end-is ∙ w.put-digits-end.ensures.end) (omega arith);
+            bytes = last_digit _ _ _ _ _ w.if-whole-lt10.false (omega arith) (w.out-is ∙ w.put_digits-end.ensures.bytes) (w.end-is ∙ w.put_digits-end.ensures.end) (omega arith);
             end = omega arith;
           }
     ]

@@ -8,7 +8,7 @@ use Rattle.level.proofs.level.show.HundredthsDisplay.fmt.Goals.{then-self-lt0, e
 pub returns-clause-writes : goal.returns-clause-writes
 returns-clause-writes g c =
     let f : SFits w32 c.args.self.now.0 = search rules in
-    let n : c.unsigned-abs-hundredths.result ≡ nat_abs c.args.self.now.0 = c.unsigned-abs-hundredths.ensures.value ∙ ap nat_abs (to_z-of_z w32 c.args.self.now.0 f) in
+    let n : c.unsigned_abs-hundredths.result ≡ nat_abs c.args.self.now.0 = c.unsigned_abs-hundredths.ensures.value ∙ ap nat_abs (to_z-of_z w32 c.args.self.now.0 f) in
     elim c.if-self-lt0.branch [
       | then-self-lt0 w ↦
           let below : c.args.self.now.0 <ℤ pos 0 = omega (arith, ints) in
