@@ -56,7 +56,7 @@ pub past_place : (ps : List Place) (r : NodeRecord) (i : ℕ) → r.places ≤ i
 past_place ps r i h = get_or_past (node_of ps r).places i Spoilt (simp (length-take, length-drop) (omega arith))
 
 -- the kind that a look into the table finds
-pub kind_found : (ks : List Kind) (p : ℕ) (r : Option (Bor Kind)) → IsGetResult ks p p r → option_map ((λ x. x.now) {X = Kind}) r ≡ slice_index_or (map Some ks) p None
+pub kind_found : (ks : List Kind) (p : ℕ) (r : Option (Bor Kind)) → IsGetResult ks p p r → option_map (λ (x : Bor Kind). x.now) r ≡ slice_index_or (map Some ks) p None
 kind_found ks p None h = sym (get_or_past (map Some ks) p None (omega (arith, length-map ks Some, h.3)))
 kind_found ks p (Some k) h = sym (get_or-map Some ks p k.now None h.3.0 ∙ ap Some (sym h.1))
 

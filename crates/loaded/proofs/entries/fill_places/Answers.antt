@@ -7,8 +7,8 @@ use Rattle.loaded.proofs.entries.fill_places.Goals as goal
 
 pub loop-i-preserved : goal.loop-i-preserved
 loop-i-preserved c = (
-  fill_next place_from 26 c.args.count c.args.records.now c.loop-i.i c.read-place.result (vec_items c.loop-i.table) (vec_items c.push-reserved.new.self) (omega arith) c.read-place.ensures.place c.push-reserved.ensures.items c.loop-i.invariant.0,
+  fill_next place_from 26 c.args.count c.args.records.now c.loop-i.i c.read_place.result (vec_items c.loop-i.table) (vec_items c.push_reserved.new.self) (omega arith) c.read_place.ensures.place c.push_reserved.ensures.items c.loop-i.invariant.0,
   omega arith,
   omega arith,
-  ap all_targets_fit c.push-reserved.ensures.items ∙ fits_push (vec_items c.loop-i.table) c.read-place.result c.loop-i.invariant.3 c.read-place.ensures.fits,
+  ap all_targets_fit c.push_reserved.ensures.items ∙ fits_push (vec_items c.loop-i.table) c.read_place.result c.loop-i.invariant.3 c.read_place.ensures.fits,
 )

@@ -6,6 +6,6 @@ use Rattle.loaded.proofs.nodes.places_of_all.Goals as goal
 
 pub loop-i-preserved : goal.loop-i-preserved
 loop-i-preserved c =
-    let r = c.read-node.result in
-    let step = ap places_of_all (left_next node_from 4 c.args.count c.args.records.now c.loop-i.i r (omega arith) c.read-node.ensures) in
+    let r = c.read_node.result in
+    let step = ap places_of_all (left_next node_from 4 c.args.count c.args.records.now c.loop-i.i r (omega arith) c.read_node.ensures) in
     (omega arith, omega arith)

@@ -3,22 +3,22 @@ use Rattle.std.specs.declared.alloc.Global.{Global}
 use Rattle.book.specs.declared.kind.Kind.{Kind}
 use Rattle.loaded.proofs.PickKinds.{kinds_taken, kinds_passed, kinds_all}
 use Rattle.loaded.proofs.picks.fill_kinds.Goals as goal
-use Rattle.loaded.proofs.picks.fill_kinds.Goals.{in-Some, in-default}
+use Rattle.loaded.proofs.picks.fill_kinds.Goals.{in-Some, in_default}
 
 pub loop-number-preserved : goal.loop-number-preserved
 loop-number-preserved c =
     let numbers = c.args.numbers.now in
     let i = c.loop-number.number-index in
     let was = vec_items c.loop-number.table in
-    elim c.match-with-number.branch [
+    elim c.match-with_number.branch [
       | in-Some w ↦
-          let same = ap (λ (v : Vec Kind Global). vec_items v) w.table-is ∙ w.push-reserved.ensures.items in (
-            kinds_taken numbers i w.in-Some.kind was (vec_items c.match-with-number.table) (omega arith) w.in-Some.ensures same c.loop-number.invariant.0,
+          let same = ap (λ (v : Vec Kind Global). vec_items v) w.table-is ∙ w.push_reserved.ensures.items in (
+            kinds_taken numbers i w.in-Some.kind was (vec_items c.match-with_number.table) (omega arith) w.in-Some.ensures same c.loop-number.invariant.0,
             omega (arith, ap (λ (v : Vec Kind Global). vec_len v) w.table-is),
             omega (arith, ap (λ (v : Vec Kind Global). vec_capacity v) w.table-is),
           )
-      | in-default w ↦ rw w.table-is (
-        kinds_passed numbers i was (omega arith) w.in-default.ensures c.loop-number.invariant.0,
+      | in_default w ↦ rw w.table-is (
+        kinds_passed numbers i was (omega arith) w.in_default.ensures c.loop-number.invariant.0,
         omega arith,
         c.loop-number.invariant.2,
       )

@@ -24,7 +24,7 @@ returns c =
     let bytes = c.args.bytes.now in
     record {
       seen =
-          ap (λ (n : ℕ). Ok (read n (drop 2 bytes))) c.from-le-bytes-count.ensures
+          ap (λ (n : ℕ). Ok (read n (drop 2 bytes))) c.from_le_bytes-count.ensures
           ∙ sym (count_is c.args.least c.args.most bytes (omega arith) (omega arith) (omega arith));
       within = (omega arith, omega arith, omega arith);
     }

@@ -11,33 +11,33 @@ use Rattle.loaded.proofs.Decoding.{no_sections, bytes_after, whole}
 use Rattle.loaded.proofs.Taken.{takes}
 use Rattle.loaded.proofs.loaded.Loaded.load.Goals as goal
 
-pub returns-in-err-nodes : goal.returns-in-err-nodes
-returns-in-err-nodes c =
+pub returns-in_err-nodes : goal.returns-in_err-nodes
+returns-in_err-nodes c =
     let bytes = c.args.bytes.now in
     let held = loaded_model c.args.self.now in
-    let f = c.in-err-nodes.field-0.0 in
-    let e = err_from_is_err_and c.from-residual.result c.from-residual.ensures.1 in
-    let d = no_sections bytes (file_told f) c.in-err-nodes.ensures.seen in
+    let f = c.in_err-nodes.field-0.0 in
+    let e = err_from_is_err_and c.from_residual.result c.from_residual.ensures.1 in
+    let d = no_sections bytes (file_told f) c.in_err-nodes.ensures.seen in
     let a = ap (answered file_told) (e.1 ∙ ap (λ (y : FileFault). Err y) e.2) ∙ sym (ap load_answer d) in
     let b = sym (ap (λ (x : Result Model Told). held_after x held) d) in
-    record { answer = a; book = b; lawful = takes bytes held held c.from-residual.result c.type-inv.bytes a b }
+    record { answer = a; book = b; lawful = takes bytes held held c.from_residual.result c.type_inv.bytes a b }
 
-pub returns-then-not-is-empty : goal.returns-then-not-is-empty
-returns-then-not-is-empty c =
+pub returns-then-not-is_empty : goal.returns-then-not-is_empty
+returns-then-not-is_empty c =
     let bytes = c.args.bytes.now in
     let held = loaded_model c.args.self.now in
-    let s = c.in-ok-nodes.field-0 in
-    let d = bytes_after bytes (book_in s.nodes s.entries s.picks) s.picks.rest.now c.in-ok-nodes.ensures.seen c.if-not-is-empty.ensures in
+    let s = c.in_ok-nodes.field-0 in
+    let d = bytes_after bytes (book_in s.nodes s.entries s.picks) s.picks.rest.now c.in_ok-nodes.ensures.seen c.if-not-is_empty.ensures in
     let a = sym (ap load_answer d) in
     let b = sym (ap (λ (x : Result Model Told). held_after x held) d) in
-    record { answer = a; book = b; lawful = takes bytes held held (Err Length) c.type-inv.bytes a b }
+    record { answer = a; book = b; lawful = takes bytes held held (Err Length) c.type_inv.bytes a b }
 
 pub returns : goal.returns
 returns c =
     let bytes = c.args.bytes.now in
     let held = loaded_model c.args.self.now in
-    let s = c.in-ok-nodes.field-0 in
-    let d = whole bytes (book_in s.nodes s.entries s.picks) s.picks.rest.now c.in-ok-nodes.ensures.seen c.if-not-is-empty.ensures in
+    let s = c.in_ok-nodes.field-0 in
+    let d = whole bytes (book_in s.nodes s.entries s.picks) s.picks.rest.now c.in_ok-nodes.ensures.seen c.if-not-is_empty.ensures in
     let a = sym (ap load_answer d) in
     let b = c.fill.ensures ∙ sym (ap (λ (x : Result Model Told). held_after x held) d) in
-    record { answer = a; book = b; lawful = takes bytes held (loaded_model c.fill.new.self) (Ok tt) c.type-inv.bytes a b }
+    record { answer = a; book = b; lawful = takes bytes held (loaded_model c.fill.new.self) (Ok tt) c.type_inv.bytes a b }
