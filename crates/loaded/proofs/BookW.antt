@@ -1,5 +1,5 @@
 -- The file of book W holds book W.
-use Rattle.std.proofs.Common.{◌≡◌, ℕ, length, Ok, refl}
+use Rattle.std.proofs.Common.{◌≡◌, length, Ok, refl}
 use Rattle.geometry.specs.Bounds.{span_at}
 use Rattle.loaded.specs.BookW.{book_w, file_w}
 use Rattle.loaded.specs.Reading.{count_in, records_in}

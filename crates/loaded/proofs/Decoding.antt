@@ -1,15 +1,14 @@
 -- What each section, and the whole file, is read as, by what its parts are read as.
-use Rattle.std.proofs.Common.{◌≡◌, ℕ, ◌-◌, ◌*◌, ◌≤◌, Bool, true, false, ◌&&◌, eqb, List, [], length, take, drop, IfOk, Ok, Err, Result, sym, refl, ap, ◌∙◌, arith}
+use Rattle.std.proofs.Common.{◌≡◌, ℕ, ◌-◌, ◌*◌, ◌≤◌, true, false, eqb, List, length, take, drop, IfOk, Ok, Err, Result, sym, ap, ◌∙◌, arith}
 use Rattle.std.proofs.lemmas.List.{take_rest}
-use Rattle.std.proofs.lemmas.Bool.{and_from, eq-eqb, ne_eqb}
+use Rattle.std.proofs.lemmas.Bool.{eq-eqb, ne_eqb}
 use Rattle.refusal.specs.Told.{Told, plain, file_told}
 use Rattle.refusal.specs.declared.hands.FileFault.{FileFault}
 use Rattle.book.specs.Model.{Model}
-use Rattle.loaded.specs.declared.record.NodeRecord.{NodeRecord}
 use Rattle.loaded.specs.declared.sections.Section.{Section}
-use Rattle.loaded.specs.Reading.{read, after, tested, count_in, records_in}
-use Rattle.loaded.specs.Tables.{book_of, places_of_all, within_limits, firsts_add_up, lawful_nodes}
-use Rattle.loaded.specs.Decode.{nodes_from, places_from, all_kinds, kinds_from, node_section, entry_section, pick_section, three_sections, decode}
+use Rattle.loaded.specs.Reading.{read, count_in, records_in}
+use Rattle.loaded.specs.Tables.{places_of_all, lawful_nodes}
+use Rattle.loaded.specs.Decode.{nodes_from, all_kinds, node_section, entry_section, pick_section, three_sections, decode}
 use Rattle.loaded.specs.Seen.{seen, with_rest, nodes_in, places_in, kinds_in, book_in, LawfulNodes, LawfulEntries}
 
 -- a fault that is handed on

@@ -6,7 +6,7 @@ use Rattle.loaded.specs.declared.record.NodeRecord.{NodeRecord}
 use Rattle.loaded.specs.declared.sections.Section.{Section}
 use Rattle.loaded.specs.Reading.{rows}
 use Rattle.loaded.specs.Tables.{places_of_all, lawful_nodes}
-use Rattle.loaded.specs.Decode.{node_from, place_from, kinds_from}
+use Rattle.loaded.specs.Decode.{node_from, place_from}
 use Rattle.loaded.specs.Seen.{nodes_in, places_in, kinds_in, Lawful}
 use Rattle.loaded.proofs.PickKinds.{few_kinds}
 

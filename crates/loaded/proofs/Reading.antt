@@ -1,10 +1,10 @@
 -- What the readers of a count and of records give, by the tests that they make.
-use Rattle.std.proofs.Common.{◌≡◌, ℕ, ◌+◌, ◌-◌, ◌*◌, ◌<◌, ◌≤◌, Bool, true, false, ◌&&◌, leb, List, length, take, drop, Ok, Err, Result, sym, refl, ap, ◌∙◌, arith}
+use Rattle.std.proofs.Common.{◌≡◌, ℕ, ◌-◌, ◌*◌, ◌<◌, ◌≤◌, Bool, true, false, leb, List, length, take, drop, Ok, Err, Result, sym, ◌∙◌}
 use native.Mathlib.Nat.{sub-zero}
 use Rattle.std.proofs.lemmas.List.{take_rest}
 use Rattle.std.proofs.lemmas.Bool.{cond-true, cond-false, and_from, and_left, and_right, le-leb, lt-leb}
 use Rattle.refusal.specs.Told.{Told, plain}
-use Rattle.loaded.specs.Reading.{short_at, Read, read, tested, count_in, records_in}
+use Rattle.loaded.specs.Reading.{short_at, read, tested, count_in, records_in}
 
 pub passed : {A : Type 0} (k : ℕ) (b : Bool) (next : Result A Told) → b ≡ true → tested k b next ≡ next
 passed k b next h = cond-true b next (Err (plain k)) h

@@ -1,4 +1,4 @@
-use Rattle.std.proofs.Common.{◌≡◌, is_some, Option, ap, ◌∙◌, arith}
+use Rattle.std.proofs.Common.{is_some, Option, ap, ◌∙◌, arith}
 use Rattle.book.specs.declared.kind.Kind.{Kind}
 use Rattle.loaded.proofs.PickKinds.{kinds_tested, all_tested}
 use Rattle.loaded.proofs.picks.all_kinds.Goals as goal

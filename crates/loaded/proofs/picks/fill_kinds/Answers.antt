@@ -1,4 +1,4 @@
-use Rattle.std.proofs.Common.{vec_items, vec_len, vec_capacity, Vec, sym, ap, ◌∙◌, arith}
+use Rattle.std.proofs.Common.{vec_items, vec_len, vec_capacity, Vec, ap, ◌∙◌, arith}
 use Rattle.std.specs.declared.alloc.Global.{Global}
 use Rattle.book.specs.declared.kind.Kind.{Kind}
 use Rattle.loaded.proofs.PickKinds.{kinds_taken, kinds_passed, kinds_all}

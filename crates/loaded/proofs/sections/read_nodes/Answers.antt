@@ -1,8 +1,8 @@
-use Rattle.std.proofs.Common.{◌≡◌, true, false, sym, ◌∙◌, arith}
+use Rattle.std.proofs.Common.{sym, ◌∙◌}
 use Rattle.std.proofs.lemmas.Result.{err_from_is_err_and}
 use Rattle.std.proofs.lemmas.Bool.{and_from, and_left, and_right}
 use Rattle.refusal.specs.Told.{file_told}
-use Rattle.loaded.specs.Tables.{within_limits, firsts_add_up, lawful_nodes}
+use Rattle.loaded.specs.Tables.{within_limits, firsts_add_up}
 use Rattle.loaded.specs.Decode.{nodes_from, node_section}
 use Rattle.loaded.specs.Seen.{with_rest, nodes_in, LawfulNodes}
 use Rattle.loaded.proofs.Decoding.{handed, nodes_no_count, nodes_no_records, nodes_unlawful, nodes_read, lawful_nodes_lem}

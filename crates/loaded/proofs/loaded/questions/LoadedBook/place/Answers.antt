@@ -1,4 +1,4 @@
-use Rattle.std.proofs.Common.{◌+◌, ◌<◌, ◌≤◌, length, get_or, sym, ap, ◌∙◌, arith}
+use Rattle.std.proofs.Common.{◌<◌, length, get_or, sym, ap, ◌∙◌, arith}
 use Rattle.book.specs.Model.{Node}
 use Rattle.book.specs.declared.place.Place.TheVariants.{Spoilt}
 use Rattle.loaded.specs.TablesLemmas.{at_node_lem, past_node, within_at, at_place, past_place}
