@@ -1,6 +1,6 @@
 -- An accepted book whose nodes stand in another book, behind what stands before them.
 use Rattle.std.proofs.Common.{◌≡◌, ℕ, ◌+◌, ◌-◌, ◌<◌, ◌≤◌, Bool, true, false, cond, eqb, ltb, length, get_or, Some, sym, refl, ap, ◌∙◌, subst, ⊎_elim, arith}
-use lib.ListN.{get_or-map}
+use Rattle.std.proofs.Math.ListN.{get_or-map}
 use Rattle.std.proofs.lemmas.Bool.{cond-true, lt-ltb, cases_lt}
 use Rattle.book.specs.Model.{Model, Node, node_of, node_count, pick_limit, level_of, place_count, place_of}
 use Rattle.book.specs.declared.place.Entry.{Entry}

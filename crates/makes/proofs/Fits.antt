@@ -1,7 +1,6 @@
 -- What it means that two books fit.
 use Rattle.std.proofs.Common.{◌≡◌, ℕ, ◌+◌, ◌-◌, ◌<◌, ◌≤◌, Bool, true, false, cond, not, ◌||◌, eqb, ltb, is_err, Ok, Err, Result, sym, refl, ap, ◌∙◌, arith}
-use mathlib.Core.Bool.{false≢true}
-use Rattle.std.proofs.lemmas.Bool.{ltb-false, eqb-false, or_parts}
+use Rattle.std.proofs.lemmas.Bool.{false≢true, ltb-false, eqb-false, or_parts}
 use Rattle.refusal.specs.Told.{Told, plain, answered, join_told}
 use Rattle.refusal.specs.declared.hands.JoinFault.{JoinFault}
 use Rattle.book.specs.Model.{Model, BookShape, node_count, pick_limit, level_of, empty_book}

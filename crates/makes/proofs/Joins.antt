@@ -1,14 +1,14 @@
 -- What two books in one answer.
-use Rattle.std.proofs.Common.{◌≡◌, ℕ, zero, suc, ◌+◌, ◌-◌, ◌<◌, ◌≤◌, List, [], ◌∷◌, ◌++◌, map, length, get_or, drop, Some, None, Option, sym, refl, ap, ◌∙◌, subst, arith}
-use lib.ListN
-use lib.ListN.{length-map}
+use Rattle.std.proofs.Common.{◌≡◌, ℕ, ◌+◌, ◌-◌, ◌<◌, ◌≤◌, List, [], ◌∷◌, ◌++◌, map, length, get_or, drop, Some, None, Option, sym, refl, ap, ◌∙◌}
+use Rattle.std.proofs.Math.ListN
+use Rattle.std.proofs.Math.ListN.{length-map}
 use Rattle.std.specs.List.{range_with_len}
 use Rattle.std.proofs.lemmas.List.FromFn.{fill_by_all}
 use Rattle.std.proofs.lemmas.List.{at_drop_more, at_drop_all, get_or-map}
-use Rattle.book.specs.Model.{Node, Model, no_node, node_of, node_count, pick_limit, level_of, place_count, place_of, kind_of}
+use Rattle.book.specs.Model.{Model, no_node, node_of, node_count, pick_limit, level_of, place_count, place_of, kind_of}
 use Rattle.book.specs.declared.kind.Kind.TheVariants.{Marker}
 use Rattle.book.specs.declared.place.Place.{Place}
-use Rattle.book.specs.declared.place.Place.TheVariants.{Filled, Spoilt}
+use Rattle.book.specs.declared.place.Place.TheVariants.{Spoilt}
 use Rattle.geometry.specs.declared.bounds.Bounds.{Bounds}
 use Rattle.makes.specs.Places.{place_for}
 use Rattle.makes.specs.Join.{sizes_of, nothing, renumbered, renumbered_node, root_of, root_boxes, root_box, new_root, both_books}

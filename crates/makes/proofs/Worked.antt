@@ -1,9 +1,9 @@
 -- The definitions at work: strings of 17 and of 1,000 joints, and a join.
 use Rattle.std.proofs.Common.{◌≡◌, ℕ, [], ◌∷◌, ℤ, pos, negsuc, refl}
-use Rattle.book.specs.Model.{Model, Node, node_count, pick_limit, level_of, place_count, empty_book}
+use Rattle.book.specs.Model.{Model, node_count, pick_limit, level_of, empty_book}
 use Rattle.book.specs.declared.kind.Kind.TheVariants.{CasingTop, Perforation, Marker}
 use Rattle.book.specs.declared.place.Place.{Place}
-use Rattle.geometry.specs.Bounds.{span_at, bounds_at}
+use Rattle.geometry.specs.Bounds.{bounds_at}
 use Rattle.geometry.specs.declared.bounds.Point.{Point}
 use Rattle.makes.specs.Join.{joined}
 use Rattle.makes.specs.Places.{place_for}

@@ -1,8 +1,7 @@
 -- Collars in range, and the box around a run of them.
-use Rattle.std.specs.Prelude.{◌≡◌, ℕ, zero, suc, ◌+◌, ◌-◌, ◌*◌, ◌<◌, ◌≤◌, Bool, true, false, ◌&&◌, List, [], ◌∷◌, map, take, drop, ℤ, pos, negsuc, ◌-ℤ◌, ◌≤ℤ◌, Some, None, Ok, Err, Option, Result, FitsSigned, nat_le}
+use Rattle.std.specs.Prelude.{◌≡◌, ℕ, zero, suc, ◌+◌, ◌-◌, ◌*◌, ◌<◌, ◌≤◌, true, false, ◌&&◌, map, take, drop, ℤ, pos, negsuc, ◌-ℤ◌, ◌≤ℤ◌, Some, Ok, Err, Option, FitsSigned, nat_le}
 use Rattle.std.proofs.Math.Path.{refl}
 use Rattle.std.proofs.Common.{sym, ◌∙◌, ap, arith, zero-add, to_z, of_z}
-use Rattle.std.specs.Int.Signed.{le_z}
 use Rattle.std.proofs.lemmas.Nat.{mul-le}
 use Rattle.std.specs.List.{range_with_len}
 use Rattle.std.specs.Int.{int_min, int_max, w32}
@@ -10,7 +9,7 @@ use Rattle.std.proofs.lemmas.List.FromFn.{take-map-range_with_len}
 use Rattle.std.proofs.lemmas.List.{drop-map}
 use Rattle.std.proofs.lemmas.Int.{ints, clamps}
 use Rattle.std.proofs.lemmas.Bool.{and_parts, leb-true}
-use Rattle.refusal.specs.Told.{Told, plain}
+use Rattle.refusal.specs.Told.{plain}
 use Rattle.geometry.specs.Around.{lowest, highest}
 use Rattle.geometry.specs.Bounds.{bounds_at, point_in_range}
 use Rattle.geometry.specs.Ends.{low_ends, high_ends}
@@ -22,7 +21,6 @@ use Rattle.geometry.proofs.Boxes.{same_point, box_made}
 use Rattle.makes.specs.Smallest.{around_both, smallest}
 use Rattle.makes.specs.Tally.{sized, collar_at, hangs, collar_boxes}
 use Rattle.makes.specs.Tallies.{tally_of}
-use Rattle.makes.specs.Tested.{tested}
 use Rattle.makes.specs.declared.tally.Tally.{Tally}
 use Rattle.makes.specs.Offsets.{ranges}
 use Rattle.makes.specs.Smallests.{around_none}

@@ -1,18 +1,17 @@
 -- What lies below a place of the tree by sixteens.
-use Rattle.std.specs.Prelude.{◌≡◌, ℕ, zero, suc, ◌+◌, ◌-◌, ◌*◌, ◌/◌, ◌<◌, ◌≤◌, min, Bool, true, false, cond, List, [], ◌∷◌, ◌++◌, map, length, get_or, take, drop, Some, None, Option, ◌==◌, nat_le, nat_lt, slice_index_or, slice_range, refl}
-use Rattle.std.proofs.Common.{⊎_elim, sym, ◌∙◌, ap, subst, zero-add, suc-add, one-mul, mul-one, add-zero, arith, length-drop}
+use Rattle.std.specs.Prelude.{◌≡◌, ℕ, zero, suc, ◌+◌, ◌-◌, ◌*◌, ◌<◌, ◌≤◌, min, List, [], ◌∷◌, ◌++◌, length, get_or, take, drop, Some, None, Option, ◌==◌, nat_le, nat_lt, slice_index_or, slice_range, refl}
+use Rattle.std.proofs.Common.{⊎_elim, sym, ◌∙◌, ap, subst, zero-add, suc-add, one-mul, add-zero, arith, length-drop}
 use Rattle.std.proofs.lemmas.List.{get_or_past, get_or-drop, drop-drop, take_all}
-use Rattle.std.proofs.lemmas.Bool.{cases_lt, cond_both, ltb-true, ltb-false, leb-true, leb-false, eqb-true, eqb-false}
+use Rattle.std.proofs.lemmas.Bool.{cases_lt, cond_both, ltb-true, ltb-false, eqb-true}
 use Rattle.book.specs.Model.{Node, no_node}
 use Rattle.book.specs.declared.place.Place.{Place}
 use Rattle.book.specs.declared.place.Place.TheVariants.{Spoilt}
 use Rattle.geometry.specs.declared.bounds.Bounds.{Bounds}
 use Rattle.makes.specs.Places.{place_for}
 use Rattle.makes.specs.Smallest.{around_both, smallest}
-use Rattle.makes.specs.Sixteens.{named, group_count, group, node_with, by_sixteens, level_at, places_at, place_at}
-use Rattle.makes.specs.Covered.{leaf_row, middle_row, top_row, row_of, covered_place}
+use Rattle.makes.specs.Sixteens.{named, group_count, group, by_sixteens, level_at, places_at, place_at}
+use Rattle.makes.specs.Covered.{leaf_row, middle_row, top_row, row_of}
 use Rattle.makes.specs.declared.sixteens.Row.{Row}
-use Rattle.makes.specs.declared.sixteens.Covered.{Covered}
 use Rattle.makes.specs.Smallests.{around_none, smallest_append}
 use Rattle.makes.specs.Groups.{named_length, named_at, group_length, group_at, group_past, above, above_length, above_at}
 use Rattle.makes.specs.Rows.{at_level, row_node, tree_node}

@@ -1,11 +1,10 @@
 -- Groups of sixteen, and the boxes of the row above.
-use Rattle.std.specs.Prelude.{◌≡◌, ℕ, zero, suc, ◌+◌, ◌-◌, ◌*◌, ◌/◌, ◌<◌, ◌≤◌, min, List, [], ◌∷◌, ◌++◌, map, length, take, drop, Some, None, Option, slice_index_or, refl}
-use Rattle.std.proofs.Common.{sym, ◌∙◌, ap, ⊎_elim, add_assoc, add-zero, arith, length-take, length-drop}
-use Rattle.std.specs.List.{range_with_len}
+use Rattle.std.specs.Prelude.{◌≡◌, ℕ, zero, suc, ◌+◌, ◌-◌, ◌*◌, ◌<◌, ◌≤◌, min, List, [], ◌∷◌, map, length, take, drop, Some, None, Option, slice_index_or, refl}
+use Rattle.std.proofs.Common.{sym, ◌∙◌, ap, ⊎_elim, add-zero, arith, length-take, length-drop}
 use Rattle.std.proofs.lemmas.List.FromFn.{length-map-range_with_len, get_or-map-range_with_len}
 use Rattle.std.proofs.lemmas.List.{get_or_past, get_or-take, get_or-drop, get_or-map, drop_all, length-map}
 use Rattle.std.proofs.lemmas.Bool.{cases_lt}
-use Rattle.book.specs.Model.{Node, no_node}
+use Rattle.book.specs.Model.{no_node}
 use Rattle.book.specs.declared.place.Place.{Place}
 use Rattle.book.specs.declared.place.Place.TheVariants.{Spoilt}
 use Rattle.geometry.specs.declared.bounds.Bounds.{Bounds}

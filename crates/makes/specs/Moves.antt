@@ -1,5 +1,5 @@
 -- Boxes moved by nothing, there and back, and twice.
-use Rattle.std.specs.Prelude.{◌≡◌, Bool, true, false, ℤ, pos, ◌+ℤ◌, neg_ℤ, is_some, Some, None, Option, refl}
+use Rattle.std.specs.Prelude.{◌≡◌, true, is_some, Some, None, Option, refl}
 use Rattle.std.proofs.lemmas.Bool.{false≢true}
 use Rattle.std.proofs.Common.{sym, ◌∙◌, ap, arith}
 use Rattle.std.proofs.lemmas.Int.{ints}

@@ -4,7 +4,7 @@ use Rattle.std.proofs.Common.{sym, ◌∙◌, ap, to_z, of_z, arith}
 use Rattle.std.specs.Int.{w32}
 use Rattle.std.proofs.lemmas.Int.{ints}
 use Rattle.std.proofs.lemmas.Bool.{and_parts, and_from}
-use Rattle.refusal.specs.Told.{Told, plain, answered, typing_told}
+use Rattle.refusal.specs.Told.{plain, answered, typing_told}
 use Rattle.refusal.specs.declared.hands.TypingFault.{TypingFault}
 use Rattle.geometry.specs.Bounds.{point_in_range}
 use Rattle.geometry.specs.Moved.{moved_point}

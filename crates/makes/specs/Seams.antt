@@ -1,11 +1,11 @@
 -- What a joined book answers, from what the join keeps.
-use Rattle.std.specs.Prelude.{◌≡◌, ℕ, zero, suc, ◌+◌, ◌-◌, ◌<◌, ◌≤◌, Bool, true, false, cond, ltb, ◌⊎◌, List, [], ◌∷◌, ◌++◌, map, length, get_or, Some, None, Option, ◌==◌, nat_lt, slice_index_or, refl}
+use Rattle.std.specs.Prelude.{◌≡◌, ℕ, zero, suc, ◌+◌, ◌-◌, ◌<◌, ◌≤◌, true, false, ltb, [], ◌∷◌, ◌++◌, map, length, get_or, Some, None, Option, ◌==◌, nat_lt, slice_index_or, refl}
 use Rattle.std.proofs.Math.Path.{sym, ap}
-use Rattle.std.proofs.Common.{◌∙◌, subst, inl, inr, ⊎_elim, arith, length-append}
+use Rattle.std.proofs.Common.{◌∙◌, ⊎_elim, arith, length-append}
 use Rattle.std.proofs.Math.ListN
 use Rattle.std.specs.List.{range_with_len}
 use Rattle.std.proofs.lemmas.List.FromFn.{length-map-range_with_len, get_or-map-range_with_len}
-use Rattle.std.proofs.lemmas.List.{get_or_past, get_or_append_left, get_or-append_right, get_or_at, get_or-map, map-append, length-map}
+use Rattle.std.proofs.lemmas.List.{get_or_past, get_or_append_left, get_or-append_right, get_or_at, get_or-map, length-map}
 use Rattle.std.proofs.lemmas.Bool.{cases_Bool, cond-true, cond-false, cond_both, ltb-true, ltb-false, eqb-true, eqb-false}
 use Rattle.book.specs.Model.{Node, Model, BookShape, no_node, node_of, node_count, pick_limit, level_of, place_count, place_of, kind_of, empty_book}
 use Rattle.book.specs.declared.kind.Kind.{Kind}
@@ -13,10 +13,8 @@ use Rattle.book.specs.declared.kind.Kind.TheVariants.{Marker}
 use Rattle.book.specs.declared.place.Entry.{Entry}
 use Rattle.book.specs.declared.place.Place.{Place}
 use Rattle.book.specs.declared.place.Place.TheVariants.{Filled, Spoilt}
-use Rattle.geometry.specs.declared.bounds.Bounds.{Bounds}
 use Rattle.makes.specs.Join.{nothing, count_at, renumbered, renumbered_node}
-use Rattle.makes.specs.Places.{place_for}
-use Rattle.makes.specs.Seam.{part_of, part_node, root_places, seam_root, known, along}
+use Rattle.makes.specs.Seam.{part_of, part_node, seam_root, known, along}
 use Rattle.makes.specs.declared.seam.Sizes.{Sizes}
 use Rattle.makes.specs.declared.seam.Seam.{Seam}
 use Rattle.makes.specs.declared.seam.Part.{Part}

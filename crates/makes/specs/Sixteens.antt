@@ -1,5 +1,5 @@
 -- The tree by sixteens. What is grouped are boxes in order, missing where nothing can be had.
-use Rattle.std.specs.Prelude.{◌≡◌, ℕ, zero, suc, ◌+◌, ◌*◌, ◌/◌, ◌%◌, ◌<◌, ◌≤◌, cond, List, [], ◌∷◌, ◌++◌, map, length, get_or, take, drop, Some, None, sum_by, Option, nat_le, slice_index_or}
+use Rattle.std.specs.Prelude.{◌≡◌, ℕ, zero, suc, ◌+◌, ◌*◌, ◌/◌, ◌%◌, ◌<◌, cond, List, [], ◌∷◌, ◌++◌, map, length, get_or, take, drop, None, sum_by, Option, nat_le, slice_index_or}
 use Rattle.std.specs.List.{range_with_len}
 use Rattle.book.specs.Model.{Node, no_node}
 use Rattle.book.specs.declared.place.Place.{Place}

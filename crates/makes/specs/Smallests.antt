@@ -1,13 +1,12 @@
 -- The smallest box around those that there are: in any grouping, and why it is the smallest.
-use Rattle.std.specs.Prelude.{◌≡◌, ℕ, List, [], ◌∷◌, ◌++◌, map, Some, None, Option, refl}
+use Rattle.std.specs.Prelude.{◌≡◌, List, [], ◌∷◌, ◌++◌, Some, None, Option, refl}
 use Rattle.std.proofs.Common.{sym, ◌∙◌, ap, subst, arith}
 use Rattle.std.specs.List.{AllByRecursion as All}
-use Rattle.geometry.specs.Around.{bounds_around, SmallestBox}
+use Rattle.geometry.specs.Around.{bounds_around}
 use Rattle.geometry.specs.Within.{Inside, Within}
 use Rattle.geometry.specs.declared.bounds.Bounds.{Bounds}
 use Rattle.geometry.specs.declared.bounds.Span.{Span}
 use Rattle.geometry.proofs.Arounds.{box_over, around_is, over_smallest, over_assoc}
-use Rattle.geometry.proofs.Boxes.{by_option}
 use Rattle.std.proofs.lemmas.Int.{ints}
 use Rattle.makes.specs.Smallest.{around_both, smallest, LiesIn, IsSmallest}
 

@@ -1,8 +1,8 @@
 -- What is true of every tree by sixteens over 1 to 1,000.
-use Rattle.std.specs.Prelude.{◌≡◌, ℕ, zero, suc, ◌+◌, ◌-◌, ◌*◌, ◌/◌, ◌%◌, ◌<◌, ◌≤◌, min, Bool, true, false, cond, List, [], ◌∷◌, ◌++◌, map, length, get_or, take, drop, Some, None, sum_by, Option, nat_le, slice_index_or, refl}
-use Rattle.std.proofs.Common.{append-nil, ⊎_elim, sym, ◌∙◌, subst, zero-add, add-one, length-append}
+use Rattle.std.specs.Prelude.{◌≡◌, ℕ, zero, suc, ◌+◌, ◌-◌, ◌*◌, ◌/◌, ◌%◌, ◌<◌, ◌≤◌, min, List, [], ◌∷◌, map, length, get_or, take, drop, None, sum_by, Option, nat_le, slice_index_or, refl}
+use Rattle.std.proofs.Common.{append-nil, ⊎_elim, sym, ◌∙◌, zero-add, add-one, length-append}
 use Rattle.std.proofs.Math.Path.{ap}
-use native.Mathlib.Omega.{arith}
+use Rattle.std.proofs.Common.{arith}
 use Rattle.std.specs.List.{range_with_len}
 use Rattle.std.proofs.lemmas.List.FromFn.{sum_by-map-range_with_len_more}
 use Rattle.std.proofs.lemmas.List.{take-map, drop-map}

@@ -127,7 +127,7 @@ impl<L: Book, R: Book> Book for Join<L, R> {
     ghost model = { λ s. along s.seam (L.Book.model s.left) (R.Book.model s.right) };
 
     ghost shape = { λ b.
-        shape-along b.seam (L.Book.model b.left) (R.Book.model b.right)
+        shape_along b.seam (L.Book.model b.left) (R.Book.model b.right)
         (L.Book.shape b.left) (R.Book.shape b.right) };
 
     fn node_count(&self) -> u16 {

@@ -5,31 +5,31 @@ use Rattle.makes.proofs.Fits.{fits_yes, joined_yes, joined_no, seam_level, seam_
 use Rattle.makes.proofs.Joins.{along_both}
 use Rattle.makes.proofs.join.measured.Goals as goal
 
-pub returns-then-is-err : goal.returns-then-is-err
+pub returns-then-is_err : goal.returns-then-is_err
 unfolding along
-returns-then-is-err g c =
+returns-then-is_err g c =
     joined_no (g.L.Book.model c.args.left.now) (g.R.Book.model c.args.right.now) c.fits.result
-    c.fits.ensures (sym c.if-is-err.ensures.value)
+    c.fits.ensures (sym c.if-is_err.ensures.value)
 
-pub overflow-add-result : goal.overflow-add-result
-overflow-add-result g c =
+pub overflow_add-result : goal.overflow_add-result
+overflow_add-result g c =
     let l = g.L.Book.model c.args.left.now in
     omega (arith, root_level l c.sizes-first.result c.level.result c.sizes-first.ensures c.level.ensures, (g.met.L.Book.shape c.args.left.now).levels_most (node_count l - 1))
 
-pub invariant-of-result : goal.invariant-of-result
-invariant-of-result g c =
+pub invariant_of-result : goal.invariant_of-result
+invariant_of-result g c =
     let l = g.L.Book.model c.args.left.now in
     let r = g.R.Book.model c.args.right.now in
-    let fit = fits_yes l r c.fits.result c.fits.ensures (sym c.if-is-err.ensures.value) in
+    let fit = fits_yes l r c.fits.result c.fits.ensures (sym c.if-is_err.ensures.value) in
     let shape = g.met.L.Book.shape c.args.left.now in
     let first = c.sizes-first.ensures in
-    let second = c.sizes-second.ensures in (
-      seam_some l _ first shape,
-      (
-        seam_nodes l r _ _ first second fit,
-        (seam_picks l r _ _ first second fit, (seam_level l r fit shape c.level.result (root_level l _ _ first c.level.ensures), tt)),
-      ),
-    )
+    let second = c.sizes-second.ensures in
+    record {
+      some = seam_some l _ first shape;
+      nodes = seam_nodes l r _ _ first second fit;
+      picks = seam_picks l r _ _ first second fit;
+      low = seam_level l r fit shape c.level.result (root_level l _ _ first c.level.ensures);
+    }
 
 pub returns : goal.returns
 returns g c =
@@ -37,5 +37,5 @@ returns g c =
     let r = g.R.Book.model c.args.right.now in
     let first = c.sizes-first.ensures in
     along_both l r _ first c.sizes-second.ensures (ap (λ n. n + 1) (root_level l _ _ first c.level.ensures))
-    c.root-box.ensures c.root-box-2.ensures
-    ∙ joined_yes l r c.fits.result c.fits.ensures (sym c.if-is-err.ensures.value)
+    c.root_box.ensures c.root_box-2.ensures
+    ∙ joined_yes l r c.fits.result c.fits.ensures (sym c.if-is_err.ensures.value)

@@ -10,11 +10,11 @@ loop-index-preserved g c =
     let i = c.loop-index.index in
     let lt : i < length (root_boxes m) = omega (arith, root_boxes_count m c.args.sizes.now c.requires) in
     let one =
-    root_box_at m c.args.sizes.now c.requires _ i _ _ c.box-of.result c.level-level.ensures c.place.ensures
-    c.renumbered-place.ensures c.box-of.ensures
+    root_box_at m c.args.sizes.now c.requires _ i _ _ c.box_of.result c.level-level.ensures c.place.ensures
+    c.renumbered-place.ensures c.box_of.ensures
     in
-    ap (λ b. around_both b (smallest (drop (i + 1) (root_boxes m)))) c.around-both-bounds.ensures
-    ∙ box_more c.loop-index.bounds c.box-of.result _ (root_boxes m) i lt one c.loop-index.invariant
+    ap (λ b. around_both b (smallest (drop (i + 1) (root_boxes m)))) c.around_both-bounds.ensures
+    ∙ box_more c.loop-index.bounds c.box_of.result _ (root_boxes m) i lt one c.loop-index.invariant
 
 pub returns : goal.returns
 returns g c =

@@ -3,9 +3,9 @@ use Rattle.book.specs.Model.{Node}
 use Rattle.makes.specs.Seams.{node_at, node_none}
 use Rattle.makes.proofs.join.JoinBook.level.Goals as goal
 
-pub returns-in-default : goal.returns-in-default
-returns-in-default g c =
-    sym (ap (λ (n : Node). n.level) (node_none c.args.self.now.seam (g.L.Book.model c.args.self.now.left) (g.R.Book.model c.args.self.now.right) c.args.node c.in-default.is))
+pub returns-in_default : goal.returns-in_default
+returns-in_default g c =
+    sym (ap (λ (n : Node). n.level) (node_none c.args.self.now.seam (g.L.Book.model c.args.self.now.left) (g.R.Book.model c.args.self.now.right) c.args.node c.in_default.is))
 
 pub returns-in-Left : goal.returns-in-Left
 returns-in-Left g c =

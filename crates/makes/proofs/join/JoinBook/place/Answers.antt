@@ -1,13 +1,13 @@
 use Rattle.std.proofs.Common.{get_or, sym, ap, ◌∙◌}
-use Rattle.book.specs.Model.{Node, node_of}
+use Rattle.book.specs.Model.{Node}
 use Rattle.book.specs.declared.place.Place.TheVariants.{Spoilt}
 use Rattle.makes.specs.Join.{nothing}
 use Rattle.makes.specs.Seams.{node_at, node_none, renumbered_at}
 use Rattle.makes.proofs.join.JoinBook.place.Goals as goal
 
-pub returns-in-default : goal.returns-in-default
-returns-in-default g c =
-    sym (ap (λ (n : Node). get_or n.places c.args.index Spoilt) (node_none c.args.self.now.seam (g.L.Book.model c.args.self.now.left) (g.R.Book.model c.args.self.now.right) c.args.node c.in-default.is))
+pub returns-in_default : goal.returns-in_default
+returns-in_default g c =
+    sym (ap (λ (n : Node). get_or n.places c.args.index Spoilt) (node_none c.args.self.now.seam (g.L.Book.model c.args.self.now.left) (g.R.Book.model c.args.self.now.right) c.args.node c.in_default.is))
 
 pub returns-in-Left : goal.returns-in-Left
 returns-in-Left g c =
@@ -21,7 +21,7 @@ returns-in-Right g c =
 
 pub returns-in-Root : goal.returns-in-Root
 returns-in-Root g c =
-    c.root-place.ensures
+    c.root_place.ensures
     ∙ sym (ap (λ (n : Node). get_or n.places c.args.index Spoilt) (node_at c.args.self.now.seam (g.L.Book.model c.args.self.now.left) (g.R.Book.model c.args.self.now.right) c.in-Some.seam _ c.args.node c.in-Some.is c.in-Root.ensures))
 
 pub returns-in-Outside : goal.returns-in-Outside

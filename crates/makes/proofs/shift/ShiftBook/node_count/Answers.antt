@@ -4,4 +4,4 @@ use Rattle.makes.proofs.shift.ShiftBook.node_count.Goals as goal
 
 pub returns : goal.returns
 returns g c =
-    c.node-count.ensures ∙ sym (count_shift c.args.self.now.offset.by (g.B.Book.model c.args.self.now.book))
+    c.node_count.ensures ∙ sym (count_shift c.args.self.now.offset.by (g.B.Book.model c.args.self.now.book))

@@ -1,4 +1,3 @@
-use Rattle.std.proofs.Common.{⊎_elim, arith}
 use Rattle.makes.specs.Sixteened.{tree_count_yes, tree_count_no}
 use Rattle.makes.specs.Trees.{tree_by}
 use Rattle.makes.proofs.sixteens.Sixteens.over.Goals as goal

@@ -1,15 +1,13 @@
-use Rattle.std.proofs.Common.{arith}
-use Rattle.std.proofs.lemmas.Int.{ints}
 use Rattle.geometry.proofs.Boxes.{same_point}
 use Rattle.makes.specs.Collars.{down_most, down_fits, level_fits, east_is, collar_is}
 use Rattle.makes.specs.Offsets.{ranges}
 use Rattle.makes.proofs.tally.make.collar.Goals as goal
 
-pub overflow-cast-result : goal.overflow-cast-result
-overflow-cast-result c = down_fits _ (down_most c.args.joint c.args.length c.requires.joint c.requires.long)
+pub overflow_cast-result : goal.overflow_cast-result
+overflow_cast-result c = down_fits _ (down_most c.args.joint c.args.length c.requires.joint c.requires.long)
 
-pub overflow-sub-result : goal.overflow-sub-result
-overflow-sub-result c =
+pub overflow_sub-result : goal.overflow_sub-result
+overflow_sub-result c =
     level_fits c.args.top.now c.args.length c.args.joint c.requires.top
     (down_most c.args.joint c.args.length c.requires.joint c.requires.long)
 

@@ -6,7 +6,7 @@ use Rattle.makes.proofs.tally.answers.TallyBook.place.Goals as goal
 pub returns-in-Some : goal.returns-in-Some
 returns-in-Some c =
     let t = c.args.self.now in
-    c.place-for.ensures ∙ ap (place_for c.in-Some.below.target) c.run.ensures
+    c.place_for.ensures ∙ ap (place_for c.in-Some.below.target) c.run.ensures
     ∙ c.in-Some.ensures.place (boxes_of t) (collars_count t ∙ sym c.tree.ensures)
 
 pub returns-in-None : goal.returns-in-None
