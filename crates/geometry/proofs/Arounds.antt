@@ -1,5 +1,5 @@
 -- The lower low end and the higher high end are those of the smallest span around two.
-use Rattle.std.proofs.Common.{◌≡◌, ℤ, ◌≤ℤ◌, Some, Option, sym, refl, arith, w32, to_z, of_z}
+use Rattle.std.proofs.Common.{◌≡◌, ℤ, ◌≤ℤ◌, Some, sym, refl, arith, w32, to_z, of_z}
 use Rattle.std.specs.Int.{int_min, int_max}
 use Rattle.std.proofs.lemmas.Int.{ints, clamps}
 use Rattle.geometry.specs.Around.{lowest, highest, bounds_around, SmallestSpan, SmallestBox}

@@ -1,6 +1,6 @@
 -- A span is its two ends: the facts that it carries do not tell two spans apart.
 use Rattle.std.proofs.Common.{◌≡◌, Bool, true, false, T, ℤ, ◌≤ℤ◌, Some, None, Option, sym, refl, ap, ◌∙◌}
-use lib.Signed.{le_z, le_z_yes}
+use lib.Signed.{le_z_yes}
 use Rattle.geometry.specs.Range.{least_coordinate, most_coordinate}
 use Rattle.geometry.specs.Bounds.{given, span_at}
 use Rattle.geometry.specs.declared.bounds.Span.{Span}

@@ -1,13 +1,12 @@
 -- Gaps by axis, and then any way of putting three of them together that grows with each.
-use Rattle.std.specs.Prelude.{◌≡◌, ℕ, ◌+◌, ◌*◌, ◌^◌, ◌<◌, ◌≤◌, max, ℤ}
+use Rattle.std.specs.Prelude.{◌≡◌, ℕ, ◌≤◌, ℤ}
 use Rattle.std.proofs.Common.{sym, subst, arith}
 use Rattle.std.proofs.lemmas.Int.{ints, by_lt_z}
 use Rattle.std.proofs.lemmas.Nat.{mul-le}
 use Rattle.geometry.specs.Gap.{gap}
-use Rattle.geometry.specs.Within.{Inside, Within, On, In}
+use Rattle.geometry.specs.Within.{Inside, Within, On}
 use Rattle.geometry.specs.Distance.{Combine, sum_of_squares, sum_of, greatest_of, box_distance}
-use Rattle.geometry.specs.Nearest.{apart, point_distance, Least}
-use Rattle.geometry.specs.declared.bounds.Point.{Point}
+use Rattle.geometry.specs.Nearest.{apart, Least}
 use Rattle.geometry.specs.declared.bounds.Span.{Span}
 use Rattle.geometry.specs.declared.bounds.Bounds.{Bounds}
 
