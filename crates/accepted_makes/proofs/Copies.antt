@@ -4,7 +4,6 @@ use Rattle.std.proofs.Math.ListN.{get_or-map}
 use Rattle.std.proofs.lemmas.Bool.{cond-true, lt-ltb, cases_lt}
 use Rattle.book.specs.Model.{Model, Node, node_of, node_count, pick_limit, level_of, place_count, place_of}
 use Rattle.book.specs.declared.place.Entry.{Entry}
-use Rattle.book.specs.declared.place.Place.{Place}
 use Rattle.book.specs.declared.place.Place.TheVariants.{Filled, Spoilt}
 use Rattle.geometry.specs.Within.{Within}
 use Rattle.geometry.specs.declared.bounds.Bounds.{Bounds}

@@ -1,11 +1,10 @@
 -- What is enough for a book to be accepted.
 use Rattle.std.proofs.Common.{◌≡◌, ℕ, ◌+◌, ◌<◌, ◌≤◌}
-use Rattle.book.specs.Model.{Model, level_of, place_count, place_of}
+use Rattle.book.specs.Model.{Model, level_of, place_count}
 use Rattle.book.specs.declared.place.Entry.{Entry}
-use Rattle.book.specs.declared.place.Place.TheVariants.{Filled}
 use Rattle.book_check.specs.Targets.{target_of, root_of}
 use Rattle.book_check.specs.Totals.{total_places}
-use Rattle.book_check.specs.Accepted.{Stands, Names, InBook, Parent, Accepted}
+use Rattle.book_check.specs.Accepted.{Stands, Names, InBook, Accepted}
 use Rattle.book_check.specs.declared.target.Target.{Target}
 use Rattle.book_check.specs.declared.target.Target.TheVariants.{Pick, Child}
 use Rattle.book_check.proofs.Meaning.{Holds}

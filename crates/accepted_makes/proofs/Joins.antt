@@ -2,7 +2,7 @@
 use Rattle.std.proofs.Common.{◌≡◌, ℕ, zero, suc, ◌+◌, ◌-◌, ◌<◌, ◌≤◌, cond, eqb, ltb, ◌⊎◌, [], ◌∷◌, length, get_or, Some, Ok, Result, sym, refl, ap, ◌∙◌, subst, inl, inr, ⊎_elim, arith}
 use Rattle.refusal.specs.declared.hands.TreeFault.{TreeFault}
 use Rattle.std.proofs.lemmas.Bool.{cond-true, cond-false, lt-ltb, le-ltb, eq-eqb, ne_eqb, cases_lt}
-use Rattle.book.specs.Model.{Model, BookShape, Node, node_of, node_count, pick_limit, level_of, place_count, place_of}
+use Rattle.book.specs.Model.{Model, BookShape, Node, node_of, node_count, pick_limit, level_of, place_count}
 use Rattle.book.specs.declared.place.Entry.{Entry}
 use Rattle.book.specs.declared.place.Place.TheVariants.{Filled, Spoilt}
 use Rattle.geometry.specs.declared.bounds.Bounds.{Bounds}
@@ -19,7 +19,7 @@ use Rattle.makes.specs.Join.{sizes_of, nothing, root_of as rootNode, root_box, b
 use Rattle.makes.specs.Places.{place_for}
 use Rattle.makes.specs.Shapes.{never}
 use Rattle.accepted_makes.specs.Joins.{JoinsAccepted, NeverRefused}
-use Rattle.accepted_makes.proofs.Enough.{Below, NamedChild, Enough, accepted_by, same_entry}
+use Rattle.accepted_makes.proofs.Enough.{Below, NamedChild, accepted_by, same_entry}
 use Rattle.accepted_makes.proofs.Roots.{Joinable, joinable_says, joined_both, both_count, both_picks, left_node, right_node, root_node, past_node, by_node, both_total}
 use Rattle.accepted_makes.proofs.Copies.{behind, level_copied, names_copied, names_back, filled_copied, below_copied, only_copied, box_copied, holds_copied, peopled_copied}
 

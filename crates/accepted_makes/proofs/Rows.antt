@@ -1,5 +1,5 @@
 -- A node of one row of a tree by sixteens: what its places hold, and what lies below them.
-use Rattle.std.proofs.Common.{◌≡◌, ℕ, ◌+◌, ◌-◌, ◌*◌, ◌/◌, ◌<◌, ◌≤◌, min, List, length, get_or, Some, None, Option, sym, refl, ap, ◌∙◌, subst, arith}
+use Rattle.std.proofs.Common.{◌≡◌, ℕ, ◌+◌, ◌-◌, ◌*◌, ◌<◌, min, List, length, get_or, Some, None, Option, sym, ap, ◌∙◌, arith}
 use Rattle.book.specs.Model.{Model, Node, node_of, level_of, place_count, place_of}
 use Rattle.book.specs.declared.place.Entry.{Entry}
 use Rattle.book.specs.declared.place.Place.TheVariants.{Filled, Spoilt}
@@ -7,8 +7,7 @@ use Rattle.geometry.specs.declared.bounds.Bounds.{Bounds}
 use Rattle.book_check.specs.Accepted.{Stands}
 use Rattle.book_check.proofs.Naming.{place_there}
 use Rattle.makes.specs.Places.{place_for}
-use Rattle.makes.specs.Sixteens.{named, group_count, group, node_with}
-use Rattle.makes.specs.Smallest.{smallest}
+use Rattle.makes.specs.Sixteens.{named, group, node_with}
 use Rattle.makes.specs.Groups.{named_length, named_at, group_length, group_at, above, above_length, above_at}
 use Rattle.makes.specs.Shapes.{never}
 use Rattle.accepted_makes.specs.Tallies.{Full}

@@ -1,8 +1,8 @@
 -- A tree by sixteens over boxes that are all there is accepted.
-use Rattle.std.proofs.Common.{◌≡◌, ℕ, zero, suc, ◌+◌, ◌-◌, ◌*◌, ◌/◌, ◌%◌, ◌<◌, ◌≤◌, Bool, true, cond, ltb, leb, ◌⊎◌, List, length, get_or, Option, sym, refl, ap, ◌∙◌, subst, ⊎_elim, arith}
+use Rattle.std.proofs.Common.{◌≡◌, ℕ, zero, suc, ◌+◌, ◌-◌, ◌*◌, ◌/◌, ◌%◌, ◌<◌, ◌≤◌, Bool, true, cond, ltb, leb, List, length, get_or, Option, sym, refl, ap, ◌∙◌, subst, ⊎_elim, arith}
 use Rattle.std.proofs.lemmas.List.{get_or_past}
 use Rattle.std.proofs.lemmas.Bool.{cond-true, cond-false, cond_both, lt-ltb, le-ltb, le-leb, lt-leb, cases_lt}
-use Rattle.book.specs.Model.{Model, Node, no_node, node_of, node_count, pick_limit, level_of, place_count, place_of}
+use Rattle.book.specs.Model.{Model, Node, no_node, node_of, node_count, pick_limit, place_count}
 use Rattle.book.specs.declared.kind.Kind.{Kind}
 use Rattle.book.specs.declared.place.Entry.{Entry}
 use Rattle.book.specs.declared.place.Place.TheVariants.{Spoilt}
@@ -16,7 +16,7 @@ use Rattle.book_check.specs.declared.target.Target.{Target}
 use Rattle.book_check.specs.declared.target.Target.TheVariants.{Pick, Child}
 use Rattle.book_check.proofs.Naming.{named_at}
 use Rattle.book_check.proofs.Trees.{names_pick, names_child}
-use Rattle.makes.specs.Sixteens.{named, group_count, group, node_with, by_sixteens, nodes_for, places_for}
+use Rattle.makes.specs.Sixteens.{named, group_count, group, node_with, by_sixteens, places_for}
 use Rattle.makes.specs.Groups.{above, above_length}
 use Rattle.makes.specs.Rows.{leaf_node, middle_node, top_node}
 use Rattle.makes.specs.Shapes.{never}

@@ -1,11 +1,10 @@
 -- Every casing string is accepted.
-use Rattle.std.proofs.Common.{◌≡◌, ℕ, ◌+◌, ◌*◌, ◌<◌, ◌≤◌, map, length, replicate, ℤ, pos, ◌-ℤ◌, ◌≤ℤ◌, Some, None, Ok, Err, Result, sym, refl, ◌∙◌, arith}
+use Rattle.std.proofs.Common.{◌≡◌, ℕ, ◌*◌, ◌<◌, length, replicate, ℤ, pos, ◌-ℤ◌, ◌≤ℤ◌, Some, None, Ok, Err, Result, sym, refl, ◌∙◌, arith}
 use Rattle.std.proofs.Math.ListN.{length-replicate}
 use Rattle.std.proofs.lemmas.List.FromFn.{get_or-map-range_with_len, length-map-range_with_len}
 use Rattle.std.proofs.lemmas.Int.{ints}
 use Rattle.book.specs.Model.{Model}
 use Rattle.book.specs.declared.kind.Kind.TheVariants.{Collar}
-use Rattle.geometry.specs.Bounds.{bounds_at}
 use Rattle.geometry.specs.Ends.{low_ends, high_ends}
 use Rattle.geometry.specs.Range.{least_coordinate, most_coordinate}
 use Rattle.geometry.specs.declared.bounds.Point.{Point}
