@@ -12,14 +12,14 @@ returns-in-Pick g c =
     let far = g.M.Measure.distance c.args.measure.now c.args.query.now in
     let s = standing c.loop-first.desk in
     sym c.loop-first.invariant ∙ next_pick m far c.args.limit s (thing_of c.in-Some.first) (sym c.in-Some.ensures) c.in-Pick.is
-    ∙ (λ i. (Ok (told (sym c.row-of-row.ensures i) (sym (c.opened-opened.ensures ∙ ap (λ t. t.opened) c.tell.ensures) i)), sym c.tell.ensures i))
+    ∙ (λ i. (Ok (told (sym c.row_of-row.ensures i) (sym (c.opened-opened.ensures ∙ ap (λ t. t.opened) c.tell.ensures) i)), sym c.tell.ensures i))
 
-pub returns-in-default-kids-to-open : goal.returns-in-default-kids-to-open
-returns-in-default-kids-to-open g c =
+pub returns-in_default-kids_to_open : goal.returns-in_default-kids_to_open
+returns-in_default-kids_to_open g c =
     let m = g.B.Book.model c.args.book.now in
     let far = g.M.Measure.distance c.args.measure.now c.args.query.now in
     let s = standing c.loop-first.desk in
-    sym c.loop-first.invariant ∙ next_broken m far c.args.limit s (thing_of c.in-Some.first) (sym c.in-Some.ensures) c.in-Node.is (sym c.in-default-kids-to-open.ensures)
+    sym c.loop-first.invariant ∙ next_broken m far c.args.limit s (thing_of c.in-Some.first) (sym c.in-Some.ensures) c.in-Node.is (sym c.in_default-kids_to_open.ensures)
 
 pub open-requires : goal.open-requires
 open-requires g c =
@@ -28,7 +28,7 @@ open-requires g c =
     let s = standing c.loop-first.desk in
     let x = thing_of c.in-Some.first in
     let first = sym c.in-Some.ensures in
-    let fits = opening_fits m far c.args.limit s x first (kids_held c.in-Some-kids-to-open.kids) (sym c.in-Some-kids-to-open.ensures) in
+    let fits = opening_fits m far c.args.limit s x first (kids_held c.in-Some-kids_to_open.kids) (sym c.in-Some-kids_to_open.ensures) in
     record {
       some = omega (arith, some_wait m far c.args.limit s x first);
       few = omega (arith, fits.0, (g.met.B.Book.shape c.args.book.now).nodes_most);
@@ -40,7 +40,7 @@ loop-first-smaller g c =
     let m = g.B.Book.model c.args.book.now in
     let far = g.M.Measure.distance c.args.measure.now c.args.query.now in
     let s = standing c.loop-first.desk in
-    let fits = opening_fits m far c.args.limit s (thing_of c.in-Some.first) (sym c.in-Some.ensures) (kids_held c.in-Some-kids-to-open.kids) (sym c.in-Some-kids-to-open.ensures) in
+    let fits = opening_fits m far c.args.limit s (thing_of c.in-Some.first) (sym c.in-Some.ensures) (kids_held c.in-Some-kids_to_open.kids) (sym c.in-Some-kids_to_open.ensures) in
     omega (arith, fits.0, ap (λ t. t.opened) c.open.ensures)
 
 pub loop-first-preserved : goal.loop-first-preserved
@@ -49,7 +49,7 @@ loop-first-preserved g c =
     let far = g.M.Measure.distance c.args.measure.now c.args.query.now in
     let s = standing c.loop-first.desk in
     ap (next_of m far c.args.limit) c.open.ensures
-    ∙ sym (next_opens m far c.args.limit s (thing_of c.in-Some.first) (sym c.in-Some.ensures) (kids_held c.in-Some-kids-to-open.kids) c.in-Node.is (sym c.in-Some-kids-to-open.ensures))
+    ∙ sym (next_opens m far c.args.limit s (thing_of c.in-Some.first) (sym c.in-Some.ensures) (kids_held c.in-Some-kids_to_open.kids) c.in-Node.is (sym c.in-Some-kids_to_open.ensures))
     ∙ c.loop-first.invariant
 
 pub returns : goal.returns
@@ -57,4 +57,4 @@ returns g c =
     let m = g.B.Book.model c.args.book.now in
     let far = g.M.Measure.distance c.args.measure.now c.args.query.now in
     let s = standing c.loop-first.desk in
-    sym c.loop-first.invariant ∙ next_none m far c.args.limit s (sym c.in-default.ensures) ∙ ap (λ n. (Ok (none n), s)) (sym c.opened-opened-2.ensures)
+    sym c.loop-first.invariant ∙ next_none m far c.args.limit s (sym c.in_default.ensures) ∙ ap (λ n. (Ok (none n), s)) (sym c.opened-opened-2.ensures)

@@ -4,21 +4,21 @@ use Rattle.browse.specs.Waitings.{length_waiting}
 use Rattle.browse.proofs.Opens.{none_if_all_opened, none_if_crowded, else_if_sound}
 use Rattle.browse.proofs.opening.kids_to_open.Goals as goal
 
-pub returns-then-opened-node-count : goal.returns-then-opened-node-count
-returns-then-opened-node-count g c =
+pub returns-then-opened-node_count : goal.returns-then-opened-node_count
+returns-then-opened-node_count g c =
     none_if_all_opened (g.B.Book.model c.args.book.now) (g.M.Measure.distance c.args.measure.now c.args.query.now) (standing c.args.desk.now) (thing_of c.args.first)
-    (omega (arith, c.opened.ensures, c.node-count.ensures))
+    (omega (arith, c.opened.ensures, c.node_count.ensures))
 
-pub overflow-add-waiting : goal.overflow-add-waiting
-overflow-add-waiting g c = let d = c.args.desk.now in omega (arith, length_waiting d.used d.table (omega arith), c.waiting.ensures)
+pub overflow_add-waiting : goal.overflow_add-waiting
+overflow_add-waiting g c = let d = c.args.desk.now in omega (arith, length_waiting d.used d.table (omega arith), c.waiting.ensures)
 
-pub returns-then-waiting-place-count : goal.returns-then-waiting-place-count
-returns-then-waiting-place-count g c =
+pub returns-then-waiting-place_count : goal.returns-then-waiting-place_count
+returns-then-waiting-place_count g c =
     none_if_crowded (g.B.Book.model c.args.book.now) (g.M.Measure.distance c.args.measure.now c.args.query.now) (standing c.args.desk.now) (thing_of c.args.first)
-    (omega (arith, c.opened.ensures, c.node-count.ensures)) (omega (arith, c.waiting.ensures, c.place-count.ensures))
+    (omega (arith, c.opened.ensures, c.node_count.ensures)) (omega (arith, c.waiting.ensures, c.place_count.ensures))
 
 pub returns : goal.returns
 returns g c =
-    c.sound-kids.ensures
+    c.sound_kids.ensures
     ∙ else_if_sound (g.B.Book.model c.args.book.now) (g.M.Measure.distance c.args.measure.now c.args.query.now) (standing c.args.desk.now) (thing_of c.args.first)
-    (omega (arith, c.opened.ensures, c.node-count.ensures)) (omega (arith, c.waiting.ensures, c.place-count.ensures))
+    (omega (arith, c.opened.ensures, c.node_count.ensures)) (omega (arith, c.waiting.ensures, c.place_count.ensures))

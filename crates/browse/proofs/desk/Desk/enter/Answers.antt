@@ -11,13 +11,13 @@ use Rattle.browse.proofs.desk.Desk.enter.Goals as goal
 abbrev newcomer : Waiting → Desk → Waiting
 newcomer kid s = record { distance = kid.distance; class = kid.class; number = kid.number; arrival = s.arrivals; top = kid.top }
 
-pub invariant-of-self : goal.invariant-of-self
-invariant-of-self c =
+pub invariant_of-self : goal.invariant_of-self
+invariant_of-self c =
     let s = c.args.self.now in
     let room : s.used < length s.table = omega arith in
     let p = c.push.ensures in
     let fresh = ap (came_before (s.arrivals + 1)) (p.queue room) ∙ came_entered (newcomer c.args.kid s) (queued sooner s.used s.table) s.fresh in
-    (omega arith, (omega arith, (p.heaped room s.heaped, (s.few, (omega arith, (omega arith, (fresh, tt)))))))
+    record { whole = omega arith; within = omega arith; heaped = p.heaped room s.heaped; few = s.few; grown = omega arith; counted = omega arith; fresh = fresh }
 
 pub returns : goal.returns
 returns c =

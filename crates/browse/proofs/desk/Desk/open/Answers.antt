@@ -15,20 +15,20 @@ more s = record { waiting = s.waiting; opened = s.opened + 1; told = s.told }
 pub loop-kid-init : goal.loop-kid-init
 loop-kid-init c =
     let s = c.args.self.now in
-    let d = c.drop-first.new.self in
+    let d = c.drop_first.new.self in
     let ks = c.all-kid-items.result.now in
     let long : length ks ≡ length (map thing_of ks) = sym (length-map ks thing_of) in
     let room : length ks + s.used ≤ 2049 = omega (arith, long, ap (λ l. length (map thing_of l)) c.all-kid-items.ensures, length_waiting s.used s.table (omega arith)) in
-    (refl, omega (arith, room, c.drop-first.ensures.used), omega (arith, d.grown))
+    (refl, omega (arith, room, c.drop_first.ensures.used), omega (arith, d.grown))
 
 pub loop-kid-preserved : goal.loop-kid-preserved
 loop-kid-preserved c =
     let e = c.enter.ensures in
-    enters_one (more (standing c.drop-first.new.self)) c.all-kid-items.result.now c.loop-kid.self c.enter.new.self c.loop-kid.kid-index
+    enters_one (more (standing c.drop_first.new.self)) c.all-kid-items.result.now c.loop-kid.self c.enter.new.self c.loop-kid.kid-index
     (record { distance = 0; class = Node; number = 0; arrival = 0; top = pos 0 }) (omega arith) e.standing e.used e.arrivals c.loop-kid.invariant
 
 pub returns : goal.returns
 returns c =
     let ks = c.all-kid-items.result.now in
-    entered_all (more (standing c.drop-first.new.self)) ks c.loop-kid.self c.loop-kid.kid-index (omega arith) c.loop-kid.invariant
-    ∙ (λ i. with_all (c.all-kid-items.ensures i) (more (c.drop-first.ensures.standing i)))
+    entered_all (more (standing c.drop_first.new.self)) ks c.loop-kid.self c.loop-kid.kid-index (omega arith) c.loop-kid.invariant
+    ∙ (λ i. with_all (c.all-kid-items.ensures i) (more (c.drop_first.ensures.standing i)))
