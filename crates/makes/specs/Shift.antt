@@ -1,6 +1,6 @@
 -- A book with every box moved.
 use Rattle.std.specs.Prelude.{◌≡◌, true, map, is_some, Ok, Err, Result}
-use Rattle.std.specs.List.{AllByRecursion as All}
+use Rattle.std.specs.List.{AllByRecursion}
 use Rattle.book.specs.Model.{Node, Model}
 use Rattle.book.specs.declared.place.Place.{Place}
 use Rattle.book.specs.declared.place.Place.TheVariants.{Filled, Spoilt}
@@ -29,7 +29,7 @@ StaysIn by Spoilt = Unit {0}
 
 -- no box of the book leaves the range
 abbrev pub Stays : Point → Model → Type 0
-Stays by m = All (λ n. All (StaysIn by) n.places) m.nodes
+Stays by m = AllByRecursion (λ n. AllByRecursion (StaysIn by) n.places) m.nodes
 
 -- one offset does what two do, wherever no box leaves the range by the first
 abbrev pub AtOnce : Point → Point → Result Offset TypingFault → Type 0

@@ -2,7 +2,7 @@
 use Rattle.std.specs.Prelude.{◌≡◌, ℕ, length, Some, slice_index_or, refl}
 use Rattle.std.proofs.Common.{sym, ◌∙◌, ap, arith}
 use Rattle.std.proofs.Math.ListN.{get_or-map}
-use Rattle.std.specs.List.{AllByRecursion as All}
+use Rattle.std.specs.List.{AllByRecursion}
 use Rattle.std.proofs.lemmas.List.{map-id, length-map}
 use Rattle.book.specs.Model.{Node, Model, BookShape, no_node, node_of, node_count, level_of, place_count, place_of}
 use Rattle.book.specs.declared.place.Entry.{Entry}
@@ -80,7 +80,7 @@ place_twice by next both z Spoilt stays = refl
 pub shift_twice : (by next both : Point) → both ≡ moved_point by next → (m : Model) → Stays by m → shifted next (shifted by m) ≡ shifted both m
 shift_twice by next both z m stays =
     ap (λ ns. record { nodes = ns; kinds = m.kinds })
-    (map_twice (shifted_node next) (shifted_node by) (shifted_node both) (λ n. All (StaysIn by) n.places)
+    (map_twice (shifted_node next) (shifted_node by) (shifted_node both) (λ n. AllByRecursion (StaysIn by) n.places)
     (λ n s. same_node _ _ refl (map_twice (shifted_place next) (shifted_place by) (shifted_place both) (StaysIn by) (place_twice by next both z) n.places s))
     m.nodes stays)
 
@@ -91,7 +91,7 @@ place_back by back z (Filled e) stays =
     ∙ ap (place_for e.target) (ap (moved_bounds moved.0) z ∙ move_back e.bounds moved.0 by moved.1)
 place_back by back z Spoilt stays = refl
 
-node_back : (by back : Point) → back ≡ opposite by → (n : Node) → All (StaysIn by) n.places → shifted_node back (shifted_node by n) ≡ n
+node_back : (by back : Point) → back ≡ opposite by → (n : Node) → AllByRecursion (StaysIn by) n.places → shifted_node back (shifted_node by n) ≡ n
 node_back by back z n s =
     same_node _ n refl
     (map_twice (shifted_place back) (shifted_place by) (λ p. p) (StaysIn by) (place_back by back z) n.places s ∙ map-id n.places)
@@ -100,4 +100,4 @@ node_back by back z n s =
 pub shift_back : (by back : Point) → back ≡ opposite by → (m : Model) → Stays by m → shifted back (shifted by m) ≡ m
 shift_back by back z m stays =
     ap (λ ns. record { nodes = ns; kinds = m.kinds })
-    (map_twice (shifted_node back) (shifted_node by) (λ n. n) (λ n. All (StaysIn by) n.places) (node_back by back z) m.nodes stays ∙ map-id m.nodes)
+    (map_twice (shifted_node back) (shifted_node by) (λ n. n) (λ n. AllByRecursion (StaysIn by) n.places) (node_back by back z) m.nodes stays ∙ map-id m.nodes)

@@ -1,6 +1,6 @@
 -- The smallest box around those that there are.
 use Rattle.std.specs.Prelude.{◌≡◌, List, [], ◌∷◌, Some, None, Option}
-use Rattle.std.specs.List.{AllByRecursion as All}
+use Rattle.std.specs.List.{AllByRecursion}
 use Rattle.book.specs.declared.place.Place.{Place}
 use Rattle.book.specs.declared.place.Place.TheVariants.{Filled, Spoilt}
 use Rattle.geometry.specs.Around.{bounds_around}
@@ -28,5 +28,5 @@ LiesIn c None = Unit {0}
 
 -- what the smallest box is: it holds each, and lies in whatever holds each; without a box there is none to hold
 abbrev pub IsSmallest : List (Option Bounds) → Option Bounds → Type 0
-IsSmallest bs (Some r) = All (LiesIn r) bs × ((c : Bounds) → All (LiesIn c) bs → Within r c)
-IsSmallest bs None = All (λ b. b ≡ None) bs
+IsSmallest bs (Some r) = AllByRecursion (LiesIn r) bs × ((c : Bounds) → AllByRecursion (LiesIn c) bs → Within r c)
+IsSmallest bs None = AllByRecursion (λ b. b ≡ None) bs

@@ -1,7 +1,7 @@
 -- The smallest box around those that there are: in any grouping, and why it is the smallest.
 use Rattle.std.specs.Prelude.{◌≡◌, List, [], ◌∷◌, ◌++◌, Some, None, Option, refl}
 use Rattle.std.proofs.Common.{sym, ◌∙◌, ap, subst, arith}
-use Rattle.std.specs.List.{AllByRecursion as All}
+use Rattle.std.specs.List.{AllByRecursion}
 use Rattle.geometry.specs.Around.{bounds_around}
 use Rattle.geometry.specs.Within.{Inside, Within}
 use Rattle.geometry.specs.declared.bounds.Bounds.{Bounds}
@@ -45,11 +45,11 @@ lies_wider : (a b : Bounds) (o : Option Bounds) → Within a b → LiesIn a o �
 lies_wider a b (Some x) w l = within_trans x a b l w
 lies_wider a b None w l = tt
 
-all_wider : (a b : Bounds) → Within a b → (bs : List (Option Bounds)) → All (LiesIn a) bs → All (LiesIn b) bs
+all_wider : (a b : Bounds) → Within a b → (bs : List (Option Bounds)) → AllByRecursion (LiesIn a) bs → AllByRecursion (LiesIn b) bs
 all_wider a b w [] all = tt
 all_wider a b w (x ∷ xs) all = (lies_wider a b x w all.0, all_wider a b w xs all.1)
 
-none_lies : (c : Bounds) (bs : List (Option Bounds)) → All (λ b. b ≡ None) bs → All (LiesIn c) bs
+none_lies : (c : Bounds) (bs : List (Option Bounds)) → AllByRecursion (λ b. b ≡ None) bs → AllByRecursion (LiesIn c) bs
 none_lies c [] all = tt
 none_lies c (x ∷ xs) all = (subst (LiesIn c) (sym all.0) tt, none_lies c xs all.1)
 
