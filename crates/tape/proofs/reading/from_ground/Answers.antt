@@ -2,9 +2,9 @@ use Rattle.std.proofs.Common.{rules}
 use Rattle.tape.specs.Reading.{from_ground}
 use Rattle.tape.proofs.reading.from_ground.Goals as goal
 
-pub returns-in-err-top : goal.returns-in-err-top
+pub returns-in_err-top : goal.returns-in_err-top
 unfolding from_ground
-returns-in-err-top c = search rules
+returns-in_err-top c = search rules
 
 pub returns : goal.returns
 unfolding from_ground
