@@ -93,7 +93,7 @@ impl Scan {
                 }
             }
         }
-        scan.ranking.sort();
+        scan.ranking.sort()?;
         Ok(scan)
     }
 

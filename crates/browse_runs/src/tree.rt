@@ -56,7 +56,7 @@ fn drawn_picks(
         })?;
     }
     if shape.sorted {
-        picks.sort();
+        picks.sort()?;
     }
     Ok(picks)
 }

@@ -2,9 +2,9 @@ use Rattle.std.proofs.Common.{rules}
 use Rattle.console.specs.Command.{command_of}
 use Rattle.console.proofs.command.typed_command.Goals as goal
 
-pub returns-then-line-gt-MOST-BYTES : goal.returns-then-line-gt-MOST-BYTES
+pub returns-then-line-gt-MOST_BYTES : goal.returns-then-line-gt-MOST_BYTES
 unfolding command_of
-returns-then-line-gt-MOST-BYTES c = search rules
+returns-then-line-gt-MOST_BYTES c = search rules
 
 pub returns-in-O : goal.returns-in-O
 unfolding command_of

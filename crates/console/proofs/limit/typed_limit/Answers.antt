@@ -8,15 +8,15 @@ returns-then-text-eq0 c = wrong_length _ (⊎_elim inl (λ p. inr p.1) c.then-te
 
 pub returns-then-byte-lt48 : goal.returns-then-byte-lt48
 returns-then-byte-lt48 c =
-    stopped _ c.loop-byte.byte-index c.loop-byte.limit c.loop-byte-test.true c.if-text-gt-MOST-DIGITS.false
+    stopped _ c.loop-byte.byte-index c.loop-byte.limit c.loop-byte-test.true c.if-text-gt-MOST_DIGITS.false
     (elim c.then-byte-lt48.branch [ then-byte-lt48-via-then-byte-lt48 w ↦ inl w.if-byte-lt48.true | then-byte-lt48-via-else-byte-lt48+then-byte-gt57 w ↦ inr w.if-byte-gt57.true ])
     c.loop-byte.invariant.0
 
-pub overflow-mul-limit : goal.overflow-mul-limit
-overflow-mul-limit c = omega (arith, small c.loop-byte.byte-index c.loop-byte.limit (omega arith) c.loop-byte.invariant.1)
+pub overflow_mul-limit : goal.overflow_mul-limit
+overflow_mul-limit c = omega (arith, small c.loop-byte.byte-index c.loop-byte.limit (omega arith) c.loop-byte.invariant.1)
 
-pub overflow-add-limit : goal.overflow-add-limit
-overflow-add-limit c = omega (arith, small c.loop-byte.byte-index c.loop-byte.limit (omega arith) c.loop-byte.invariant.1)
+pub overflow_add-limit : goal.overflow_add-limit
+overflow_add-limit c = omega (arith, small c.loop-byte.byte-index c.loop-byte.limit (omega arith) c.loop-byte.invariant.1)
 
 pub loop-byte-preserved : goal.loop-byte-preserved
 loop-byte-preserved c =
@@ -26,4 +26,4 @@ loop-byte-preserved c =
 pub returns : goal.returns
 returns c =
     all_read c.args.text.now c.loop-byte.byte-index c.loop-byte.limit (omega arith) c.if-text-eq0.false
-    c.if-text-gt-MOST-DIGITS.false c.loop-byte.invariant.0
+    c.if-text-gt-MOST_DIGITS.false c.loop-byte.invariant.0
