@@ -30,6 +30,7 @@ pub enum Command {
 }
 
 /// The command that a line is.
+#[tactic(auto, unfolding(crate::specs::Command::command_of))]
 pub fn typed_command(line: &[u8]) -> Result<Command, TypingFault>
     ensures { answered typing_told result ≡ command_of line.now }
 {
@@ -66,6 +67,7 @@ fn typed_next(rest: &[u8]) -> Result<Command, TypingFault>
     }
 }
 
+#[tactic(auto, unfolding(crate::specs::Command::open_typed))]
 fn typed_open(rest: &[u8]) -> Result<Command, TypingFault>
     ensures { answered typing_told result ≡ open_typed rest.now }
 {

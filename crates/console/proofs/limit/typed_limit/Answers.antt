@@ -1,4 +1,4 @@
-use Rattle.std.proofs.Common.{inl, inr, ⊎_elim, arith, rules}
+use Rattle.std.proofs.Common.{inl, inr, ⊎_elim, arith}
 use Rattle.console.proofs.Digits.{more, small, all_read, stopped, wrong_length}
 use Rattle.console.proofs.limit.typed_limit.Goals as goal
 use Rattle.console.proofs.limit.typed_limit.Goals.{then-byte-lt48-via-then-byte-lt48, then-byte-lt48-via-else-byte-lt48+then-byte-gt57}
@@ -20,8 +20,8 @@ overflow_add-limit c = omega (arith, small c.loop-byte.byte-index c.loop-byte.li
 
 pub loop-byte-preserved : goal.loop-byte-preserved
 loop-byte-preserved c =
-    more c.args.text.now c.loop-byte.byte-index c.loop-byte.limit c.from.result c.loop-byte-test.true
-    c.if-byte-lt48.false c.if-byte-gt57.false c.from.ensures c.loop-byte.invariant.0 c.loop-byte.invariant.1
+    let next = more c.args.text.now c.loop-byte.byte-index c.loop-byte.limit c.from.result c.loop-byte-test.true
+    c.if-byte-lt48.false c.if-byte-gt57.false c.from.ensures c.loop-byte.invariant.0 c.loop-byte.invariant.1 in (cc, omega arith)
 
 pub returns : goal.returns
 returns c =
