@@ -1,10 +1,10 @@
 -- Numbers read back from their bytes.
-use Rattle.std.proofs.Common.{◌≡◌, ℕ, zero, suc, ◌+◌, ◌*◌, ◌/◌, ◌%◌, ◌^◌, ◌<◌, List, [], ◌∷◌, ◌++◌, get_or, ℤ, pos, negsuc, ◌≤ℤ◌, sym, refl, ap, ◌∙◌, pow-suc, arith, w32, SFits, to_z, of_z}
+use Rattle.std.proofs.Common.{◌≡◌, ℕ, zero, suc, ◌+◌, ◌*◌, ◌/◌, ◌%◌, ◌^◌, ◌<◌, List, [], ◌∷◌, ◌++◌, get_or, ℤ, pos, negsuc, ◌≤ℤ◌, sym, ap, ◌∙◌, pow-suc, arith, w32, SFits, to_z, of_z}
 use Rattle.std.proofs.lemmas.Nat.{div_below}
 use Rattle.std.proofs.lemmas.Int.{ints, to_z-of_z}
 use Rattle.geometry.specs.Range.{least_coordinate, most_coordinate}
 use Rattle.geometry.specs.declared.bounds.Span.{Span}
-use Rattle.file.specs.Encode.{bytes_of, twos_complement, le16, le32}
+use Rattle.file.specs.Encode.{bytes_of, le16, le32}
 use Rattle.file.proofs.Bytes.{twos_complement_is}
 
 -- the number that these bytes give, the lowest first

@@ -4,7 +4,7 @@ use lib.ListN.{length-map}
 use Rattle.std.proofs.lemmas.List.{take-append-drop, append-nil, nil_from_length}
 use Rattle.std.proofs.lemmas.Bool.{and_parts, leb-true, eqb-true}
 use Rattle.std.proofs.lemmas.Bool.Decides.{nat_tests}
-use Rattle.std.specs.List.{flat_map, AllByRecursion as All}
+use Rattle.std.specs.List.{flat_map, AllByRecursion}
 use Rattle.refusal.specs.Told.{Told}
 use Rattle.book.specs.Kinds.{number_of, kind_with}
 use Rattle.book.specs.Model.{Model}
@@ -18,7 +18,7 @@ use Rattle.loaded.specs.Decode.{nodes_from, place_from, places_from, all_kinds, 
 use Rattle.loaded.specs.Lawful.{short_bytes, section, node_bytes, kind_bytes, LawfulFile}
 
 abbrev Bytes : List ℕ → Type 0
-Bytes = All (λ (b : ℕ). b < 256)
+Bytes = AllByRecursion (λ (b : ℕ). b < 256)
 
 refused : {A B : Type 0} {t : Told} {b : B} → Err t ≡ Ok b → A
 refused e = let z : ◌≡◌ {A = ℕ} 0 1 = cc in absurd (omega arith)
@@ -113,7 +113,7 @@ entries_apart (suc n) raw e =
     ap (λ (bs : List ℕ). take 26 raw ++ bs) (entries_apart n (drop 26 raw) (simp length-drop (omega (arith, suc-mul n 26))))
     ∙ take-append-drop 26 raw
 
-entries_sized : (n : ℕ) (raw : List ℕ) → length raw ≡ n * 26 → All (λ (e : List ℕ). length e ≡ 26) (cut_into n raw)
+entries_sized : (n : ℕ) (raw : List ℕ) → length raw ≡ n * 26 → AllByRecursion (λ (e : List ℕ). length e ≡ 26) (cut_into n raw)
 entries_sized zero raw e = tt
 entries_sized (suc n) raw e = (
   simp length-take (omega (arith, suc-mul n 26)),
@@ -160,13 +160,13 @@ nodes_count : (n : ℕ) (raw : List ℕ) → length (nodes_from n raw) ≡ n
 nodes_count zero raw = refl
 nodes_count (suc n) raw = ap suc (nodes_count n (drop 4 raw))
 
-levels_apart : (nodes : List NodeRecord) → within_limits nodes ≡ true → All (λ (r : NodeRecord). r.level ≤ 7) nodes
+levels_apart : (nodes : List NodeRecord) → within_limits nodes ≡ true → AllByRecursion (λ (r : NodeRecord). r.level ≤ 7) nodes
 levels_apart [] h = tt
 levels_apart (r ∷ rs) h =
     let t = and_parts (leb r.level 7 && leb r.places 16) (within_limits rs) h in
     (leb-true r.level 7 (and_parts (leb r.level 7) (leb r.places 16) t.0).0, levels_apart rs t.1)
 
-places_apart : (nodes : List NodeRecord) → within_limits nodes ≡ true → All (λ (r : NodeRecord). r.places ≤ 16) nodes
+places_apart : (nodes : List NodeRecord) → within_limits nodes ≡ true → AllByRecursion (λ (r : NodeRecord). r.places ≤ 16) nodes
 places_apart [] h = tt
 places_apart (r ∷ rs) h =
     let t = and_parts (leb r.level 7 && leb r.places 16) (within_limits rs) h in
@@ -217,7 +217,7 @@ record EntriesApart (places : ℕ) (bytes : List ℕ) (x : Read (List Place)) : 
   entries : List (List ℕ)
   laid : bytes ≡ section entries ++ x.rest
   most : length entries ≤ 2048
-  sized : All (λ (e : List ℕ). length e ≡ 26) entries
+  sized : AllByRecursion (λ (e : List ℕ). length e ≡ 26) entries
   total : places ≡ length entries
   holds : x.value ≡ map place_from entries
   rest : Bytes x.rest

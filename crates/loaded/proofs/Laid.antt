@@ -3,7 +3,7 @@ use Rattle.std.proofs.Common.{◌≡◌, ℕ, suc, ◌+◌, ◌*◌, ◌/◌, �
 use lib.ListN.{length-map}
 use Rattle.std.proofs.lemmas.List.{take_at, drop_at, append-nil}
 use Rattle.std.proofs.lemmas.Bool.{and_from, le-leb, eq-eqb}
-use Rattle.std.specs.List.{flat_map, AllByRecursion as All}
+use Rattle.std.specs.List.{flat_map, AllByRecursion}
 use Rattle.book.specs.Kinds.{number_of, kind_with}
 use Rattle.book.specs.Model.{Model}
 use Rattle.book.specs.declared.kind.Kind.{Kind}
@@ -31,7 +31,7 @@ records_laid n size rs rest e =
     ∙ ap (λ (xs : List ℕ). Ok (read xs (drop (n * size) (rs ++ rest)))) (take_at rs rest (n * size) e)
     ∙ ap (λ (xs : List ℕ). Ok (read rs xs)) (drop_at rs rest (n * size) e)
 
-all_of : {A : Type 0} {P : A → Type 0} (xs : List A) → ((x : A) → P x) → All P xs
+all_of : {A : Type 0} {P : A → Type 0} (xs : List A) → ((x : A) → P x) → AllByRecursion P xs
 all_of [] h = tt
 all_of (x ∷ xs) h = (h x, all_of xs h)
 
@@ -40,7 +40,7 @@ module _ {A : Type 0} (bytes_of : A → List ℕ) where
   joined_map [] = refl
   joined_map (x ∷ xs) = ap (λ (rest : List ℕ). bytes_of x ++ rest) (joined_map xs)
 
-  length_joined : (size : ℕ) (xs : List A) → All (λ (x : A). length (bytes_of x) ≡ size) xs → length (flat_map bytes_of xs) ≡ length xs * size
+  length_joined : (size : ℕ) (xs : List A) → AllByRecursion (λ (x : A). length (bytes_of x) ≡ size) xs → length (flat_map bytes_of xs) ≡ length xs * size
   length_joined size [] h = omega arith
   length_joined size (x ∷ xs) h =
       length-append (bytes_of x) (flat_map bytes_of xs)
@@ -52,7 +52,7 @@ nodes_back (r ∷ rs) =
     ap (λ (first : ℕ). record { level = r.level; places = r.places; first = first } ∷ nodes_from (length rs) (flat_map node_bytes rs)) (short_back r.first)
     ∙ ap (λ (nodes : List NodeRecord). r ∷ nodes) (nodes_back rs)
 
-entries_back : (es : List (List ℕ)) → All (λ (e : List ℕ). length e ≡ 26) es → places_from (length es) (flat_map (λ e. e) es) ≡ map place_from es
+entries_back : (es : List (List ℕ)) → AllByRecursion (λ (e : List ℕ). length e ≡ 26) es → places_from (length es) (flat_map (λ e. e) es) ≡ map place_from es
 entries_back [] h = refl
 entries_back (e ∷ es) h =
     let rest = flat_map (λ (e : List ℕ). e) es in
@@ -75,7 +75,7 @@ kinds_all_back : (ks : List Kind) → all_kinds (flat_map kind_bytes ks) ≡ tru
 kinds_all_back [] = refl
 kinds_all_back (k ∷ ks) = rw (kind_back k, kinds_all_back ks)
 
-limits_laid : (nodes : List NodeRecord) → All (λ (r : NodeRecord). r.level ≤ 7) nodes → All (λ (r : NodeRecord). r.places ≤ 16) nodes → within_limits nodes ≡ true
+limits_laid : (nodes : List NodeRecord) → AllByRecursion (λ (r : NodeRecord). r.level ≤ 7) nodes → AllByRecursion (λ (r : NodeRecord). r.places ≤ 16) nodes → within_limits nodes ≡ true
 limits_laid [] a b = refl
 limits_laid (r ∷ rs) a b =
     and_from (leb r.level 7 && leb r.places 16) (within_limits rs)
@@ -89,7 +89,7 @@ firsts_laid e (r ∷ rs) h =
     (eq-eqb r.first e (omega (arith, h 0 r (omega arith))))
     (firsts_laid (e + r.places) rs (λ i d l. h (suc i) d (omega arith) ∙ omega arith))
 
-lawful_laid : (nodes : List NodeRecord) → All (λ (r : NodeRecord). r.level ≤ 7) nodes → All (λ (r : NodeRecord). r.places ≤ 16) nodes → FirstsAddUp nodes → lawful_nodes nodes ≡ true
+lawful_laid : (nodes : List NodeRecord) → AllByRecursion (λ (r : NodeRecord). r.level ≤ 7) nodes → AllByRecursion (λ (r : NodeRecord). r.places ≤ 16) nodes → FirstsAddUp nodes → lawful_nodes nodes ≡ true
 lawful_laid nodes a b f =
     and_from (within_limits nodes) (firsts_add_up 0 nodes) (limits_laid nodes a b)
     (firsts_laid 0 nodes (λ i d l. f i d l ∙ omega arith))
@@ -105,7 +105,7 @@ nodes_laid nodes rest a b l =
     let size = length_joined node_bytes 4 nodes (all_of nodes (λ _. refl)) in
     rw (section_map node_bytes nodes rest, count_laid 1 512 (length nodes) (all ++ rest) a b, records_laid (length nodes) 4 all rest size, nodes_back nodes, l)
 
-entries_laid : (es : List (List ℕ)) (rest : List ℕ) → length es ≤ 2048 → All (λ (e : List ℕ). length e ≡ 26) es → (places : ℕ) → places ≡ length es → entry_section places (section es ++ rest) ≡ Ok (read (map place_from es) rest)
+entries_laid : (es : List (List ℕ)) (rest : List ℕ) → length es ≤ 2048 → AllByRecursion (λ (e : List ℕ). length e ≡ 26) es → (places : ℕ) → places ≡ length es → entry_section places (section es ++ rest) ≡ Ok (read (map place_from es) rest)
 unfolding entry_section
 entries_laid es rest b sizes places total =
     let all = flat_map (λ (e : List ℕ). e) es in

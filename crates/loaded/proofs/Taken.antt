@@ -1,7 +1,7 @@
 -- A load that answers by what the file is read as takes exactly the lawful files.
 use Rattle.std.proofs.Common.{◌≡◌, ℕ, ◌<◌, List, get_or, Ok, Err, Result, sym, refl, subst, arith, w8, Fits}
 use Rattle.std.proofs.ByRecursion.{All-from_get_or}
-use Rattle.std.specs.List.{AllByRecursion as All}
+use Rattle.std.specs.List.{AllByRecursion}
 use Rattle.refusal.specs.Told.{Told, answered, file_told}
 use Rattle.refusal.specs.declared.hands.FileFault.{FileFault}
 use Rattle.book.specs.Model.{Model}
@@ -11,7 +11,7 @@ use Rattle.loaded.specs.Load.{load_answer, held_after}
 use Rattle.loaded.proofs.Laid.{laid_decodes}
 use Rattle.loaded.proofs.Apart.{decoded_lawful}
 
-by_answer : (bytes : List ℕ) (before now : Model) (d : Result Model Told) (r : Result (Unit {0}) FileFault) → All (λ (b : ℕ). b < 256) bytes → decode bytes ≡ d → answered file_told r ≡ load_answer d → now ≡ held_after d before → TakesLawful r bytes now
+by_answer : (bytes : List ℕ) (before now : Model) (d : Result Model Told) (r : Result (Unit {0}) FileFault) → AllByRecursion (λ (b : ℕ). b < 256) bytes → decode bytes ≡ d → answered file_told r ≡ load_answer d → now ≡ held_after d before → TakesLawful r bytes now
 by_answer bytes before now (Ok new) (Ok u) h e a b = subst (LawfulFile bytes) (sym b) (decoded_lawful bytes new h e)
 by_answer bytes before now (Ok new) (Err f) h e a b = let z : ◌≡◌ {A = ℕ} 0 1 = cc in absurd (omega arith)
 by_answer bytes before now (Err t) (Ok u) h e a b = let z : ◌≡◌ {A = ℕ} 0 1 = cc in absurd (omega arith)

@@ -1,6 +1,6 @@
 -- What a lawful file is, as it is laid out: three sections, each the count of its records and then the records.
 use Rattle.std.specs.Prelude.{◌≡◌, ℕ, ◌/◌, ◌%◌, ◌<◌, ◌≤◌, List, [], ◌∷◌, ◌++◌, map, length, take, Result, MatchResult, slice_index_or}
-use Rattle.std.specs.List.{flat_map, AllByRecursion as All}
+use Rattle.std.specs.List.{flat_map, AllByRecursion}
 use Rattle.refusal.specs.declared.hands.FileFault.{FileFault}
 use Rattle.book.specs.Kinds.{number_of}
 use Rattle.book.specs.Model.{Model}
@@ -37,11 +37,11 @@ pub record LawfulFile (bytes : List ℕ) (book : Model) : Type 0 where
   pub nodes_most : length nodes ≤ 512
   pub entries_most : length entries ≤ 2048
   pub picks_most : length picks ≤ 2048
-  pub levels_most : All (λ (r : NodeRecord). r.level ≤ 7) nodes
-  pub places_most : All (λ (r : NodeRecord). r.places ≤ 16) nodes
+  pub levels_most : AllByRecursion (λ (r : NodeRecord). r.level ≤ 7) nodes
+  pub places_most : AllByRecursion (λ (r : NodeRecord). r.places ≤ 16) nodes
   pub first_entries : FirstsAddUp nodes
   pub places_total : places_of_all nodes ≡ length entries
-  pub entry_size : All (λ (e : List ℕ). length e ≡ 26) entries
+  pub entry_size : AllByRecursion (λ (e : List ℕ). length e ≡ 26) entries
   pub holds : book ≡ book_of nodes (map place_from entries) picks
 
 -- a load takes exactly the lawful files: what it took is a lawful file of the book now held, what it refused is a lawful

@@ -3,7 +3,7 @@ use Rattle.std.proofs.Common.{◌≡◌, ℕ, zero, suc, ◌+◌, ◌*◌, ◌/�
 use Rattle.std.proofs.ByRecursion.{All-take, All-drop}
 use Rattle.std.proofs.lemmas.List.{get_or-drop, drop-drop, drop_at, take_all, take-append-drop, nil_from_length}
 use Rattle.std.proofs.lemmas.Int.{of_z-to_z}
-use Rattle.std.specs.List.{AllByRecursion as All}
+use Rattle.std.specs.List.{AllByRecursion}
 use Rattle.geometry.proofs.Boxes.{by_option, bounds_at_lem, box_ends}
 use Rattle.geometry.specs.Bounds.{bounds_at}
 use Rattle.geometry.specs.declared.bounds.Point.{Point}
@@ -33,7 +33,7 @@ place_read e rest small =
     (λ i. record { easting = long_back b.easting.high [] (high_fits b.easting) i; northing = long_back b.northing.high [] (high_fits b.northing) i; level = long_back b.level.high [] (high_fits b.level) i })
     (short_back e.target [] small)
 
-pub places_read : (ps : List Place) → All IsFilled ps → All Fits ps → places_from (length ps) (place_records ps) ≡ ps
+pub places_read : (ps : List Place) → AllByRecursion IsFilled ps → AllByRecursion Fits ps → places_from (length ps) (place_records ps) ≡ ps
 places_read [] f t = refl
 places_read (Filled e ∷ ps) f t =
     let past : drop 26 (entry_record e ++ place_records ps) ≡ place_records ps = drop_at (entry_record e) (place_records ps) 26 (length_entry_record e) in
@@ -114,7 +114,7 @@ module _ (bytes : List ℕ) (small : Bytes bytes) where
       ∙ (λ j. point_bytes (ends.0 j) ++ (point_bytes (ends.1 j) ++ le16 (short_at bytes 24)))
       ∙ pieces h)
 
-pub places_written : (count : ℕ) (records : List ℕ) → length records ≡ count * 26 → Bytes records → All IsFilled (places_from count records) → place_records (places_from count records) ≡ records
+pub places_written : (count : ℕ) (records : List ℕ) → length records ≡ count * 26 → Bytes records → AllByRecursion IsFilled (places_from count records) → place_records (places_from count records) ≡ records
 places_written zero records cut small f = sym (nil_from_length records (omega arith))
 places_written (suc count) records cut small f =
     let here = place_written (take 26 records) (All-take (λ b. b < 256) 26 records small) (simp length-take (omega arith)) f.0 in

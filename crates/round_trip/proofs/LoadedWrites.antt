@@ -2,7 +2,7 @@
 use Rattle.std.proofs.Common.{◌≡◌, ℕ, ◌*◌, ◌≤◌, true, eqb, List, [], ◌∷◌, ◌++◌, map, length, None, Ok, sym, ap, ◌∙◌, arith}
 use Rattle.std.proofs.lemmas.List.{append_assoc, append-nil, length-map, take_all, nil_from_length}
 use Rattle.std.proofs.lemmas.Bool.{and_parts, eqb-true}
-use Rattle.std.specs.List.{AllByRecursion as All}
+use Rattle.std.specs.List.{AllByRecursion}
 use Rattle.book.specs.Kinds.{number_of}
 use Rattle.book.specs.Model.{Model}
 use Rattle.book.specs.Spoilt.{first_spoilt}
@@ -95,7 +95,7 @@ module _ (rs : List NodeRecord) (ps : List Place) (lawful : lawful_nodes rs ≡ 
   entries_same : (ks : List Kind) (count : ℕ) (records : List ℕ) → places_from count records ≡ ps → length records ≡ count * 26 → Bytes records → first_spoilt (book_of rs ps ks) ≡ None → entry_section (book_of rs ps ks) ≡ le16 count ++ records
   entries_same ks count records e cut small none =
       let counted : total_places (book_of rs ps ks) ≡ count = places_total ks ∙ ap length (sym e) ∙ length_rows place_from 26 count records in
-      let filled : All IsFilled (places_from count records) = rw e (rw all_places_lem at (filled_all 0 (map (node_of ps) rs) none)) in
+      let filled : AllByRecursion IsFilled (places_from count records) = rw e (rw all_places_lem at (filled_all 0 (map (node_of ps) rs) none)) in
       let written : entry_records (map (node_of ps) rs) ≡ records = records_all (map (node_of ps) rs) ∙ ap place_records (all_places_lem ∙ sym e) ∙ places_written count records cut small filled in
       λ i. le16 (counted i) ++ written i
 

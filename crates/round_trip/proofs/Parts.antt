@@ -2,7 +2,7 @@
 use Rattle.std.proofs.Common.{◌≡◌, ℕ, zero, suc, ◌+◌, ◌*◌, ◌/◌, ◌%◌, ◌<◌, ◌≤◌, Bool, true, false, ◌&&◌, leb, List, [], ◌∷◌, ◌++◌, length, take, drop, Ok, Err, Result, sym, refl, ap, ◌∙◌, arith, length-append, length-take}
 use Rattle.std.proofs.lemmas.List.{take_at, drop_at, take_all, take-append-drop}
 use Rattle.std.proofs.lemmas.Bool.{and_parts, leb-true}
-use Rattle.std.specs.List.{AllByRecursion as All}
+use Rattle.std.specs.List.{AllByRecursion}
 use Rattle.refusal.specs.Told.{Told}
 use Rattle.file.specs.Encode.{bytes_of, le16}
 use Rattle.file.proofs.Back.{short_back}
@@ -10,7 +10,7 @@ use Rattle.loaded.specs.Reading.{short_at, Read, read, after, tested, count_in, 
 use Rattle.loaded.proofs.Reading.{count_is, records_are}
 
 abbrev pub Bytes : List ℕ → Type 0
-Bytes = All (λ b. b < 256)
+Bytes = AllByRecursion (λ b. b < 256)
 
 pub ok_inj : {A : Type 0} {x y : A} → ◌≡◌ {A = Result A Told} (Ok x) (Ok y) → x ≡ y
 ok_inj e = cc

@@ -1,6 +1,6 @@
 -- The file form and the reading of it undo each other.
 use Rattle.std.specs.Prelude.{◌≡◌, ℕ, ◌<◌, ◌≤◌, List, None, Ok}
-use Rattle.std.specs.List.{AllByRecursion as All}
+use Rattle.std.specs.List.{AllByRecursion}
 use Rattle.book.specs.Model.{Model, BookShape}
 use Rattle.book.specs.Spoilt.{first_spoilt}
 use Rattle.book.specs.Totals.{total_places}
@@ -13,4 +13,4 @@ WrittenLoads = (m : Model) → BookShape m → total_places m ≤ 2048 → first
 
 -- a file that loads without a spoilt place is what its book is written out as
 abbrev pub LoadedWrites : Type 0
-LoadedWrites = (bytes : List ℕ) (m : Model) → All (λ b. b < 256) bytes → decode bytes ≡ Ok m → first_spoilt m ≡ None → encode m ≡ bytes
+LoadedWrites = (bytes : List ℕ) (m : Model) → AllByRecursion (λ b. b < 256) bytes → decode bytes ≡ Ok m → first_spoilt m ≡ None → encode m ≡ bytes

@@ -6,8 +6,8 @@ use Rattle.file.proofs.Placing.{left_room, left_more, left_none}
 use Rattle.file.proofs.Records.{entries_next}
 use Rattle.file.proofs.entries.put_entry_records.Goals as goal
 
-pub put-node-entries-at-requires : goal.put-node-entries-at-requires
-put-node-entries-at-requires g c =
+pub put_node_entries-at-requires : goal.put_node_entries-at-requires
+put_node_entries-at-requires g c =
     let m = g.B.Book.model c.args.book.now in
     let n = c.loop-node.node in
     let within : n < node_count m = omega arith in
@@ -18,7 +18,7 @@ loop-node-preserved g c =
     let m = g.B.Book.model c.args.book.now in
     let n = c.loop-node.node in
     let within : n < node_count m = omega arith in
-    left_more c.loop-node.invariant (place_records (places_of m n)) _ (entries_next m.nodes n within) c.put-node-entries-at.ensures
+    left_more c.loop-node.invariant (place_records (places_of m n)) _ (entries_next m.nodes n within) c.put_node_entries-at.ensures
 
 pub returns : goal.returns
 returns g c =

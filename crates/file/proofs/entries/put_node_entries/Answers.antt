@@ -7,10 +7,10 @@ use Rattle.file.proofs.Lengths.{length_entry_record}
 use Rattle.file.proofs.Placing.{left_room, left_more, left_same, left_none}
 use Rattle.file.proofs.Records.{place_next}
 use Rattle.file.proofs.entries.put_node_entries.Goals as goal
-use Rattle.file.proofs.entries.put_node_entries.Goals.{in-Filled, in-default}
+use Rattle.file.proofs.entries.put_node_entries.Goals.{in-Filled, in_default}
 
-pub put-entry-at-requires : goal.put-entry-at-requires
-put-entry-at-requires g c =
+pub put_entry-at-requires : goal.put_entry-at-requires
+put_entry-at-requires g c =
     let m = g.B.Book.model c.args.book.now in
     let e = c.in-Filled.entry in
     let within : c.loop-index.index < place_count m c.args.node = omega arith in
@@ -25,9 +25,9 @@ loop-index-preserved g c =
     elim c.match-place.branch [
       | in-Filled w ↦
           left_same
-          (left_more c.loop-index.invariant (entry_record w.in-Filled.entry) _ (next (Filled w.in-Filled.entry) w.in-Filled.ensures) w.put-entry-at.ensures)
+          (left_more c.loop-index.invariant (entry_record w.in-Filled.entry) _ (next (Filled w.in-Filled.entry) w.in-Filled.ensures) w.put_entry-at.ensures)
           _ refl w.out-is w.at-is
-      | in-default w ↦ left_same c.loop-index.invariant _ (next Spoilt w.in-default.ensures) w.out-is w.at-is
+      | in_default w ↦ left_same c.loop-index.invariant _ (next Spoilt w.in_default.ensures) w.out-is w.at-is
     ]
 
 pub returns : goal.returns

@@ -1,4 +1,4 @@
-use Rattle.std.proofs.Common.{◌≡◌, ◌+◌, ◌<◌, ◌≤◌, length, refl, arith}
+use Rattle.std.proofs.Common.{◌<◌, ◌≤◌, refl, arith}
 use Rattle.std.proofs.lemmas.List.{at_drop_all}
 use Rattle.book.specs.Model.{node_count, node_of, place_count}
 use Rattle.file.specs.Encode.{node_record, node_records}
@@ -7,8 +7,8 @@ use Rattle.file.proofs.Placing.{left_room, left_more, left_none}
 use Rattle.file.proofs.Records.{nodes_next, places_next}
 use Rattle.file.proofs.nodes.put_node_records.Goals as goal
 
-pub put-node-at-requires : goal.put-node-at-requires
-put-node-at-requires g c =
+pub put_node-at-requires : goal.put_node-at-requires
+put_node-at-requires g c =
     let m = g.B.Book.model c.args.book.now in
     let n = c.loop-node.node in
     let within : n < node_count m = omega arith in
@@ -21,9 +21,9 @@ loop-node-preserved g c =
     let m = g.B.Book.model c.args.book.now in
     let n = c.loop-node.node in
     let within : n < node_count m = omega arith in
-    let next = nodes_next c.loop-node.first c.place-count.result m.nodes n within c.place-count.ensures in (
-      left_more c.loop-node.invariant.0 (node_record c.loop-node.first (node_of m n)) _ next c.put-node-at.ensures,
-      omega (arith, c.place-count.ensures, c.loop-node.invariant.1, places_next m.nodes n within),
+    let next = nodes_next c.loop-node.first c.place_count.result m.nodes n within c.place_count.ensures in (
+      left_more c.loop-node.invariant.0 (node_record c.loop-node.first (node_of m n)) _ next c.put_node-at.ensures,
+      omega (arith, c.place_count.ensures, c.loop-node.invariant.1, places_next m.nodes n within),
     )
 
 pub returns : goal.returns

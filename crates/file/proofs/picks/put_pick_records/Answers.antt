@@ -6,10 +6,10 @@ use Rattle.file.specs.Encode.{pick_records}
 use Rattle.file.proofs.Placing.{put_is, left_room, left_more, left_same, left_none}
 use Rattle.file.proofs.Records.{pick_next, pick_some}
 use Rattle.file.proofs.picks.put_pick_records.Goals as goal
-use Rattle.file.proofs.picks.put_pick_records.Goals.{in-Some, in-default}
+use Rattle.file.proofs.picks.put_pick_records.Goals.{in-Some, in_default}
 
-pub put-bytes-at-requires : goal.put-bytes-at-requires
-put-bytes-at-requires g c =
+pub put_bytes-at-requires : goal.put_bytes-at-requires
+put_bytes-at-requires g c =
     let m = g.B.Book.model c.args.book.now in
     let within : c.loop-pick.pick < pick_limit m = omega arith in
     let k = c.in-Some.kind in
@@ -24,9 +24,9 @@ loop-pick-preserved g c =
           left_same
           (left_more c.loop-pick.invariant (number_of w.in-Some.kind ∷ []) _
           (pick_next m.kinds c.loop-pick.pick within w.in-Some.kind w.in-Some.ensures)
-          (put_is _ (ap (λ n. n ∷ []) w.number.ensures) w.put-bytes-at.ensures))
+          (put_is _ (ap (λ n. n ∷ []) w.number.ensures) w.put_bytes-at.ensures))
           _ refl w.out-is w.at-is
-      | in-default w ↦ absurd (pick_some m.kinds c.loop-pick.pick within w.in-default.ensures)
+      | in_default w ↦ absurd (pick_some m.kinds c.loop-pick.pick within w.in_default.ensures)
     ]
 
 pub returns : goal.returns

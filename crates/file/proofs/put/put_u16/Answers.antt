@@ -4,4 +4,4 @@ use Rattle.file.proofs.Placing.{put_is}
 use Rattle.file.proofs.put.put_u16.Goals as goal
 
 pub returns : goal.returns
-returns c = put_is _ (c.to-le-bytes.ensures ∙ le16_is c.args.number) c.put-bytes.ensures
+returns c = put_is _ (c.to_le_bytes.ensures ∙ le16_is c.args.number) c.put_bytes.ensures
