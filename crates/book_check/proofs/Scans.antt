@@ -109,6 +109,6 @@ count_marked m a n shape e s =
 
 -- ---- the tests as the code reads them: r is the root, v the number of places
 
-pub fertile_from : (m : Model) (n r v : ℕ) → r ≡ root_of m → v ≡ place_count m n → ((n < r) × (v ≡ 0 → ⊥)) ⊎ (r ≤ n) → Fertile m n
-fertile_from m n r v e q (inl (l, h)) = inr (omega arith)
+pub fertile_from : (m : Model) (n r v : ℕ) → r ≡ root_of m → v ≡ place_count m n → (v ≡ 0 → ⊥) ⊎ (r ≤ n) → Fertile m n
+fertile_from m n r v e q (inl h) = inr (omega arith)
 fertile_from m n r v e q (inr h) = inl (omega arith)

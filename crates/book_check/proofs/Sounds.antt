@@ -1,16 +1,18 @@
 -- The target of a place that is sound by itself, test by test.
-use Rattle.std.proofs.Common.{◌≡◌, ℕ, Bool, true, false, not, [], ◌∷◌, Ok, Err, Result, sym, refl, ap, ◌∙◌, arith}
+use Rattle.std.proofs.Common.{◌≡◌, ℕ, ◌+◌, ◌<◌, ◌≤◌, Bool, true, false, not, [], ◌∷◌, Ok, Err, Result, sym, refl, ap, ◌∙◌, arith}
+use Rattle.std.proofs.lemmas.Bool.{or_from}
 use Rattle.refusal.specs.Told.{Told, at_place}
 use Rattle.geometry.specs.Contains.{contains}
 use Rattle.geometry.specs.declared.bounds.Bounds.{Bounds}
-use Rattle.book.specs.Model.{Model, level_of, place_of}
+use Rattle.book.specs.Model.{Model, level_of, place_count, place_of}
 use Rattle.book.specs.declared.place.Entry.{Entry}
 use Rattle.book.specs.declared.place.Place.{Place}
 use Rattle.book.specs.declared.place.Place.TheVariants.{Filled, Spoilt}
-use Rattle.book_check.specs.Below.{first_of}
+use Rattle.book_check.specs.Below.{first_of, some_below}
 use Rattle.book_check.specs.Targets.{target_at, target_of, in_book}
-use Rattle.book_check.specs.Sound.{when, unless, one_lower, outside, leaves_box, entry_fault, sound_target, sound_in}
+use Rattle.book_check.specs.Sound.{when, unless, one_lower, outside, sticks_out, leaves_box, entry_fault, sound_target, sound_in}
 use Rattle.book_check.specs.declared.target.Target.{Target}
+use Rattle.book_check.proofs.Belows.{some_at, some_more, some_no, some_none}
 
 -- ---- an entry outside the box
 
@@ -22,6 +24,20 @@ not_outside m b k j e h q = ap (outside b) (sym h) ∙ ap not (sym q)
 
 pub spoilt_passed : (m : Model) (b : Bounds) (k j : ℕ) → Spoilt ≡ place_of m k j → outside b (place_of m k j) ≡ false
 spoilt_passed m b k j h = ap (outside b) (sym h)
+
+pub sticks_out_at : (m : Model) (b : Bounds) (k j : ℕ) (e : Entry) → j < place_count m k → Filled e ≡ place_of m k j → false ≡ contains b e.bounds → true ≡ sticks_out m b k
+unfolding sticks_out
+sticks_out_at m b k j e l h q = sym (some_at (λ i. outside b (place_of m k i)) (place_count m k) j l (is_outside m b k j e h q))
+
+pub filled_within : (m : Model) (b : Bounds) (k j : ℕ) (e : Entry) → some_below (λ i. outside b (place_of m k i)) j ≡ false → Filled e ≡ place_of m k j → true ≡ contains b e.bounds → some_below (λ i. outside b (place_of m k i)) (j + 1) ≡ false
+filled_within m b k j e h p q = some_more (λ i. outside b (place_of m k i)) j ∙ or_from _ _ (not_outside m b k j e p q) h
+
+pub spoilt_within : (m : Model) (b : Bounds) (k j : ℕ) → some_below (λ i. outside b (place_of m k i)) j ≡ false → Spoilt ≡ place_of m k j → some_below (λ i. outside b (place_of m k i)) (j + 1) ≡ false
+spoilt_within m b k j h p = some_more (λ i. outside b (place_of m k i)) j ∙ or_from _ _ (spoilt_passed m b k j p) h
+
+pub sticks_out_none : (m : Model) (b : Bounds) (k n : ℕ) → some_below (λ i. outside b (place_of m k i)) n ≡ false → place_count m k ≤ n → false ≡ sticks_out m b k
+unfolding sticks_out
+sticks_out_none m b k n h l = sym (some_no (λ i. outside b (place_of m k i)) (place_count m k) (λ j q. some_none (λ i. outside b (place_of m k i)) n j h (omega arith)))
 
 -- ---- the tests of a place
 

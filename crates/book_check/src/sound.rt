@@ -21,6 +21,7 @@ fn one_lower<B: Book>(book: &B, node: u16, target: Target) -> bool
 }
 
 /// Whether an entry of the node lies outside the box. Spoilt places are passed over.
+#[tactic(auto, using(crate::proofs::Sounds::sticks_out_at, crate::proofs::Sounds::filled_within, crate::proofs::Sounds::spoilt_within))]
 fn sticks_out<B: Book>(book: &B, bounds: &Bounds, node: u16) -> bool
     ensures { result ≡ sticks_out (B.Book.model book.now) bounds.now node }
 {

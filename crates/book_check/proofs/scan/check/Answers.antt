@@ -1,4 +1,4 @@
-use Rattle.std.proofs.Common.{◌≡◌, ℕ, ◌<◌, ◌≤◌, None, Ok, Err, sym, refl, ap, ◌∙◌, arith}
+use Rattle.std.proofs.Common.{◌≡◌, ℕ, ◌<◌, ◌≤◌, None, Ok, Err, sym, refl, ap, ◌∙◌, inl, inr, arith}
 use Rattle.refusal.specs.declared.hands.TreeFault.TheVariants.{TooManyPlaces}
 use Rattle.book.specs.Model.{node_count, place_count}
 use Rattle.book_check.specs.Below.{count_below}
@@ -44,7 +44,7 @@ loop-node-preserved g c =
     let m = g.B.Book.model c.args.book.now in
     let n = c.loop-node.node in
     let e : c.loop-place.place ≡ place_count m n = omega (arith, c.place_count-places.ensures) in
-    let f = fertile_from m n c.root_of-root.result c.place_count-places.result c.root_of-root.ensures c.place_count-places.ensures c.else-node-root.either in
+    let f = fertile_from m n c.root_of-root.result c.place_count-places.result c.root_of-root.ensures c.place_count-places.ensures (elim c.else-node-root.either [ inl p ↦ inl p.1 | inr h ↦ inr (omega arith) ]) in
     node_passed m c.loop-place.named n c.loop-place.place f c.loop-place.invariant.0 e c.loop-place.invariant.1
 
 pub returns-in-Some : goal.returns-in-Some
@@ -59,12 +59,12 @@ returns-in-Some g c =
           ∙ ap fault_told (sym w.fault-is)
       | then-loop-node-test+else-node-root+then-loop-place-test+in-Err w ↦
           stopped_unsound m w.loop-place.named n w.loop-place.place _ few c.loop-node.invariant.0 (omega (arith, c.node_count-nodes.ensures, w.loop-node-test.true))
-          (fertile_from m n c.root_of-root.result w.place_count-places.result c.root_of-root.ensures w.place_count-places.ensures w.else-node-root.either)
+          (fertile_from m n c.root_of-root.result w.place_count-places.result c.root_of-root.ensures w.place_count-places.ensures (elim w.else-node-root.either [ inl p ↦ inl p.1 | inr h ↦ inr (omega arith) ]))
           w.loop-place.invariant.1 (omega (arith, w.place_count-places.ensures, w.loop-place-test.true)) w.in-Err.ensures
           ∙ ap fault_told (sym w.fault-is)
       | then-loop-node-test+else-node-root+then-loop-place-test+in-Ok+then-has w ↦
           stopped_twice m w.loop-place.named n w.loop-place.place w.in-Ok.target few c.loop-node.invariant.0 (omega (arith, c.node_count-nodes.ensures, w.loop-node-test.true))
-          (fertile_from m n c.root_of-root.result w.place_count-places.result c.root_of-root.ensures w.place_count-places.ensures w.else-node-root.either)
+          (fertile_from m n c.root_of-root.result w.place_count-places.result c.root_of-root.ensures w.place_count-places.ensures (elim w.else-node-root.either [ inl p ↦ inl p.1 | inr h ↦ inr (omega arith) ]))
           w.loop-place.invariant.1 (omega (arith, w.place_count-places.ensures, w.loop-place-test.true)) w.in-Ok.ensures w.if-has.ensures
           ∙ ap fault_told (sym w.fault-is)
       | else-loop-node-test w ↦
