@@ -1,7 +1,7 @@
 -- What `next` comes to, by what waits first.
 use Rattle.std.proofs.Common.{◌≡◌, ℕ, zero, suc, ◌+◌, ◌-◌, ◌<◌, ◌≤◌, Bool, cond, leb, List, [], ◌∷◌, length, Some, None, Ok, Err, Option, sym, refl, ap, ◌∙◌, arith}
 use Rattle.refusal.specs.Told.{at_node}
-use Rattle.book.specs.Model.{Model, node_count, level_of, places_of, place_count}
+use Rattle.book.specs.Model.{Model, node_count, level_of, places_of}
 use Rattle.book.specs.declared.place.Place.{Place}
 use Rattle.book.specs.declared.place.Place.TheVariants.{Filled, Spoilt}
 use Rattle.queue.specs.Heap.{behind}

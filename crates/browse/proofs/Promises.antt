@@ -2,13 +2,11 @@
 use Rattle.std.proofs.Common.{◌≡◌, ℕ, List, [], ◌∷◌, ap, subst}
 use Rattle.book.specs.Model.{Model, BookShape}
 use Rattle.search.specs.declared.turn.Turn.{Turn}
-use Rattle.search.specs.declared.turn.Hand.{Hand}
-use Rattle.search.specs.declared.turn.Call.TheVariants.{Next}
 use Rattle.search.specs.Search.{Standing}
 use Rattle.browse.specs.Thing.{Thing}
 use Rattle.browse.specs.Tree.{Far}
 use Rattle.browse.specs.Browse.{Reply, next_of, turned, replies_from}
-use Rattle.browse.specs.Law.{Monotone, FitsWord, Lawful, TellsNearest, taken}
+use Rattle.browse.specs.Law.{Monotone, FitsWord, Lawful, TellsNearest}
 use Rattle.browse.proofs.Lawful.{lawful, nearest}
 
 module _ (m : Model) (far : Far) (shape : BookShape m) (mono : Monotone far) (fits : FitsWord far) (s : Standing Thing) where

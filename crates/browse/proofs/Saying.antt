@@ -1,5 +1,5 @@
 -- A loop over turns: what was answered, and what is yet to be answered.
-use Rattle.std.proofs.Common.{◌≡◌, ℕ, ◌+◌, ◌<◌, ◌≤◌, List, [], ◌∷◌, ◌++◌, map, length, get_or, drop, sym, refl, ap, ◌∙◌, add-one, drop-cons}
+use Rattle.std.proofs.Common.{◌≡◌, ℕ, ◌+◌, ◌<◌, ◌≤◌, List, [], ◌∷◌, ◌++◌, map, length, get_or, drop, sym, ap, ◌∙◌, add-one, drop-cons}
 use Rattle.std.proofs.lemmas.List.{append_assoc, append-nil, map-append, drop_all}
 use Rattle.book.specs.Model.{Model}
 use Rattle.search.specs.declared.turn.Turn.{Turn}
@@ -7,7 +7,7 @@ use Rattle.search.specs.Search.{Standing}
 use Rattle.browse.specs.declared.answer.Answer.{Answer}
 use Rattle.browse.specs.Thing.{Thing}
 use Rattle.browse.specs.Tree.{Far}
-use Rattle.browse.specs.Browse.{Reply, turned, replies_from, stands_after, reply}
+use Rattle.browse.specs.Browse.{turned, replies_from, stands_after, reply}
 
 module _ (m : Model) (far : Far) (begin : Standing Thing) (turns : List Turn) where
   -- After i turns it stands at s and has given these answers: with what the others give they are all the answers.

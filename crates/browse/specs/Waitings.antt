@@ -1,11 +1,11 @@
 -- The order of what waits: it is total, and a newcomer stands by it where the definition puts it.
-use Rattle.std.specs.Prelude.{◌≡◌, ℕ, ◌+◌, ◌*◌, ◌<◌, ◌≤◌, Bool, true, false, cond, not, ◌&&◌, List, [], ◌∷◌, map, length, take, ℤ, pos, negsuc, Some, None, Option, nat_lt, refl}
+use Rattle.std.specs.Prelude.{◌≡◌, ℕ, ◌+◌, ◌<◌, ◌≤◌, Bool, true, false, cond, not, ◌&&◌, List, [], ◌∷◌, map, length, take, ℤ, pos, negsuc, nat_lt, refl}
 use Rattle.std.proofs.Common.{sym, ap, ◌∙◌, true≢false, arith}
 use Rattle.std.proofs.lemmas.List.{length-map, length-take-le}
 use Rattle.std.proofs.lemmas.Bool.{lt-ltb, ltb-true}
 use Rattle.std.proofs.lemmas.Bool.Decides.{nat_tests}
 use Rattle.queue.specs.Order.{TotalOrder}
-use Rattle.queue.specs.Heap.{queued, front, behind}
+use Rattle.queue.specs.Heap.{queued, behind}
 use Rattle.queue.specs.Sorted.{insert as put}
 use Rattle.queue.specs.Orders.{key_order}
 use Rattle.queue.proofs.Sorting.{length_sorted}
@@ -15,7 +15,7 @@ use Rattle.browse.specs.declared.waiting.Class.TheVariants.{Node, Pick}
 use Rattle.browse.specs.declared.waiting.Waiting.{Waiting}
 use Rattle.browse.specs.Thing.{Thing, rank, or_else, before}
 use Rattle.browse.specs.Sooner.{top_number, key, sooner, came_before}
-use Rattle.browse.specs.Desk.{thing_of, one_of}
+use Rattle.browse.specs.Desk.{thing_of}
 
 same_class : (a b : Class) → rank a ≡ rank b → a ≡ b
 same_class Node Node e = refl

@@ -1,6 +1,5 @@
-use Rattle.std.proofs.Common.{◌≡◌, ◌+◌, ◌<◌, ◌≤◌, length, Ok, sym, refl, ap, ◌∙◌, arith, rules}
+use Rattle.std.proofs.Common.{Ok, sym, ap, ◌∙◌, arith}
 use Rattle.search.specs.Answer.{told, none}
-use Rattle.book.specs.Model.{node_count}
 use Rattle.browse.specs.Browse.{next_of}
 use Rattle.browse.specs.Desk.{thing_of, standing, kids_held}
 use Rattle.browse.proofs.Nexts.{next_none, next_pick, next_broken, next_opens, opening_fits, some_wait}

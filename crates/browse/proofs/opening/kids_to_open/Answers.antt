@@ -1,4 +1,4 @@
-use Rattle.std.proofs.Common.{◌≡◌, ◌∙◌, arith, rules}
+use Rattle.std.proofs.Common.{◌∙◌, arith}
 use Rattle.browse.specs.Desk.{thing_of, standing}
 use Rattle.browse.specs.Waitings.{length_waiting}
 use Rattle.browse.proofs.Opens.{none_if_all_opened, none_if_crowded, else_if_sound}

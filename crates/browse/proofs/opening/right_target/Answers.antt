@@ -1,4 +1,4 @@
-use Rattle.std.proofs.Common.{arith, rules}
+use Rattle.std.proofs.Common.{arith}
 use Rattle.browse.proofs.opening.right_target.Goals as goal
 
 pub overflow_add-result : goal.overflow_add-result

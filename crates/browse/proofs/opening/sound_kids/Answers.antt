@@ -1,6 +1,6 @@
-use Rattle.std.proofs.Common.{◌≡◌, ◌<◌, ◌≤◌, length, Some, None, sym, ap, ◌∙◌, arith, rules}
+use Rattle.std.proofs.Common.{◌≡◌, Some, None, sym, ap, ◌∙◌, arith}
 use Rattle.book.specs.Model.{places_of, level_of, place_of}
-use Rattle.browse.specs.Desk.{thing_of, one_of, kids_held, kids_of}
+use Rattle.browse.specs.Desk.{thing_of, kids_held, kids_of}
 use Rattle.browse.specs.Opening.{sound_kid}
 use Rattle.browse.proofs.Collecting.{collect_stops, collect_on, collect_ends}
 use Rattle.browse.proofs.opening.sound_kids.Goals as goal

@@ -1,22 +1,15 @@
-use Rattle.std.proofs.Common.{◌≡◌, sym, ap}
 use Rattle.search.specs.declared.turn.Call.TheVariants.{Report}
-use Rattle.browse.specs.Browse.{report_of, counts_reply}
 use Rattle.browse.specs.Desk.{standing}
 use Rattle.browse.specs.Law.{taken}
 use Rattle.browse.proofs.Promises.{lawful_reply}
 use Rattle.browse.proofs.browse.Browse.report.Goals as goal
 
-pub returns : goal.returns
-returns g c =
+pub returns-clause-law : goal.returns-clause-law
+returns-clause-law g c =
     let b = c.args.self.now in
     let s = standing b.desk in
     let m = g.B.Book.model b.book in
     let far = g.M.Measure.distance b.measure b.query in
-    let e : counts_reply (record { told = c.told.result; opened = c.opened.result }) ≡ report_of s = cc in
-    record {
-      follows = e;
-      law =
-          λ hand.
-          lawful_reply m far (g.met.B.Book.shape b.book) (g.met.M.Measure.monotone b.measure b.query) (g.met.M.Measure.fits b.measure b.query)
-          s (taken hand Report) _ s (ap (λ z. (z, s)) (sym e));
-    }
+    λ hand.
+    lawful_reply m far (g.met.B.Book.shape b.book) (g.met.M.Measure.monotone b.measure b.query) (g.met.M.Measure.fits b.measure b.query)
+    s (taken hand Report) _ s cc

@@ -1,4 +1,4 @@
-use Rattle.std.proofs.Common.{◌≡◌, ◌+◌, ◌<◌, ◌≤◌, map, length, get_or, vec_items, sym, ◌∙◌, subst, arith}
+use Rattle.std.proofs.Common.{◌≡◌, ◌+◌, map, get_or, vec_items, sym, ◌∙◌, subst, arith}
 use Rattle.search.specs.declared.turn.Hand.TheVariants.{Day}
 use Rattle.search.specs.declared.turn.Call.TheVariants.{Next}
 use Rattle.search.specs.declared.turn.Turn.{Turn}

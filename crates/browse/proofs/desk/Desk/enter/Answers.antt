@@ -1,4 +1,4 @@
-use Rattle.std.proofs.Common.{◌≡◌, ◌+◌, ◌<◌, map, length, refl, ap, ◌∙◌, arith}
+use Rattle.std.proofs.Common.{◌+◌, ◌<◌, map, length, refl, ap, ◌∙◌, arith}
 use Rattle.queue.specs.Heap.{queued}
 use Rattle.browse.specs.declared.waiting.Waiting.{Waiting}
 use Rattle.browse.specs.declared.desk.Desk.{Desk}

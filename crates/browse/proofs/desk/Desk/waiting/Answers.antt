@@ -1,4 +1,4 @@
-use Rattle.std.proofs.Common.{◌≡◌, sym, arith}
+use Rattle.std.proofs.Common.{sym, arith}
 use Rattle.browse.specs.Waitings.{length_waiting}
 use Rattle.browse.proofs.desk.Desk.waiting.Goals as goal
 

@@ -1,5 +1,5 @@
-use Rattle.std.proofs.Common.{◌≡◌, ◌<◌, [], ◌∷◌, map, length, take, ap, ◌∙◌, arith}
-use Rattle.std.proofs.lemmas.List.{map-append, length-map, length-take-le, take_more_set}
+use Rattle.std.proofs.Common.{[], ◌∷◌, map, take, ap, ◌∙◌, arith}
+use Rattle.std.proofs.lemmas.List.{map-append, take_more_set}
 use Rattle.browse.specs.Desk.{thing_of}
 use Rattle.browse.proofs.kids.Kids.add.Goals as goal
 
