@@ -1,4 +1,4 @@
-use Rattle.std.proofs.Common.{◌≡◌, true, false, not, sym, ap, rules}
+use Rattle.std.proofs.Common.{◌≡◌, ◌<◌, true, false, not, sym, ap, arith, rules}
 use Rattle.refusal.specs.Told.{at_node}
 use Rattle.book_check.specs.Sound.{when}
 use Rattle.book_check.specs.Marks.{bit_of}
@@ -10,7 +10,8 @@ pub returns-then-not-has : goal.returns-then-not-has
 returns-then-not-has c =
     let k = c.loop-node.node in
     let h : false ≡ bit_of c.args.named.now (Child k) = search rules in
-    sym (first_at (λ j. when (not (bit_of c.args.named.now (Child j))) (at_node 19 j)) c.args.root k (at_node 19 k) c.loop-node.invariant (ap (λ b. when (not b) (at_node 19 k)) (sym h)) c.loop-node-test.true)
+    let l : k < c.args.root = omega arith in
+    sym (first_at (λ j. when (not (bit_of c.args.named.now (Child j))) (at_node 19 j)) c.args.root k (at_node 19 k) c.loop-node.invariant (ap (λ b. when (not b) (at_node 19 k)) (sym h)) l)
 
 pub loop-node-preserved : goal.loop-node-preserved
 loop-node-preserved c =
