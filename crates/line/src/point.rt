@@ -25,6 +25,7 @@ fn read_point(easting: &[u8], northing: &[u8], level: &[u8]) -> Result<Point, Ty
 
 /// The point that a line of three level texts names: easting, northing, level. The words are counted before any of them
 /// is read.
+#[tactic(auto, unfolding(crate::specs::Point::point_typed))]
 pub fn typed_point(line: &[u8]) -> Result<Point, TypingFault>
     ensures { answered typing_told result ≡ point_typed line.now }
 {
