@@ -24,6 +24,7 @@ fn row_of(pick: Waiting) -> Row
 }
 
 /// Opens what waits first while it is a node within the limit, then tells it if it is a pick within the limit.
+#[tactic(auto, using(crate::proofs::Nexts::next_none, crate::proofs::Nexts::next_pick))]
 pub(crate) fn follow<B: Book, M: Measure>(
     book: &B,
     measure: &M,

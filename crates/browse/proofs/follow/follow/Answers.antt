@@ -1,17 +1,8 @@
-use Rattle.std.proofs.Common.{Ok, sym, ap, ◌∙◌, arith}
-use Rattle.search.specs.Answer.{told, none}
+use Rattle.std.proofs.Common.{sym, ap, ◌∙◌, arith}
 use Rattle.browse.specs.Browse.{next_of}
 use Rattle.browse.specs.Desk.{thing_of, standing, kids_held}
-use Rattle.browse.proofs.Nexts.{next_none, next_pick, next_broken, next_opens, opening_fits, some_wait}
+use Rattle.browse.proofs.Nexts.{next_broken, next_opens, opening_fits, some_wait}
 use Rattle.browse.proofs.follow.follow.Goals as goal
-
-pub returns-in-Pick : goal.returns-in-Pick
-returns-in-Pick g c =
-    let m = g.B.Book.model c.args.book.now in
-    let far = g.M.Measure.distance c.args.measure.now c.args.query.now in
-    let s = standing c.loop-first.desk in
-    sym c.loop-first.invariant ∙ next_pick m far c.args.limit s (thing_of c.in-Some.first) (sym c.in-Some.ensures) c.in-Pick.is
-    ∙ (λ i. (Ok (told (sym c.row_of-row.ensures i) (sym (c.opened-opened.ensures ∙ ap (λ t. t.opened) c.tell.ensures) i)), sym c.tell.ensures i))
 
 pub returns-in_default-kids_to_open : goal.returns-in_default-kids_to_open
 returns-in_default-kids_to_open g c =
@@ -50,10 +41,3 @@ loop-first-preserved g c =
     ap (next_of m far c.args.limit) c.open.ensures
     ∙ sym (next_opens m far c.args.limit s (thing_of c.in-Some.first) (sym c.in-Some.ensures) (kids_held c.in-Some-kids_to_open.kids) c.in-Node.is (sym c.in-Some-kids_to_open.ensures))
     ∙ c.loop-first.invariant
-
-pub returns : goal.returns
-returns g c =
-    let m = g.B.Book.model c.args.book.now in
-    let far = g.M.Measure.distance c.args.measure.now c.args.query.now in
-    let s = standing c.loop-first.desk in
-    sym c.loop-first.invariant ∙ next_none m far c.args.limit s (sym c.in_default.ensures) ∙ ap (λ n. (Ok (none n), s)) (sym c.opened-opened-2.ensures)
