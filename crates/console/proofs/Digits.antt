@@ -25,8 +25,8 @@ more bs i n d h low high e so_far small =
       omega (arith, ten_more i),
     )
 
-pub small : (i n : ℕ) → i < 16 → n < 10 ^ i → n < 10 ^ 15
-small i n h k = let m : 10 ^ i ≤ 10 ^ 15 = pow-le-pow_right {n = 10} (lit< tt) {i = i} {j = 15} (omega arith) in omega arith
+pub small : (i n : ℕ) → i < 19 → n < 10 ^ i → n < 10 ^ 18
+small i n h k = let m : 10 ^ i ≤ 10 ^ 18 = pow-le-pow_right {n = 10} (lit< tt) {i = i} {j = 18} (omega arith) in omega arith
 
 in_length : (bs : List ℕ) → 0 < length bs → length bs ≤ 16 → (ltb 0 (length bs) && leb (length bs) 16) ≡ true
 in_length bs h k = grind (arith, nat_tests)
