@@ -10,7 +10,8 @@ loop-index-init g c =
     let m = g.B.Book.model c.args.book.now in
     let n = c.loop-node.node in
     let within : n < node_count m = omega arith in
-    c.loop-node.invariant ∙ at_drop_more (spoilt_node n) m.nodes n no_node within
+    let open_node = at_drop_more (spoilt_node n) m.nodes n no_node within in
+    cc
 
 pub loop-index-preserved : goal.loop-index-preserved
 loop-index-preserved g c =
