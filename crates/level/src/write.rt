@@ -36,6 +36,7 @@ fn put_digits(whole: u32, out: &mut [u8], at: usize) -> usize
 }
 
 /// Puts `hundredths` with their point from `at` on, and answers where they end.
+#[tactic(auto, using(crate::proofs::Writing::length_hundredths, crate::proofs::Writing::three_more))]
 fn put_hundredths(hundredths: u32, out: &mut [u8], at: usize) -> usize
     requires { at + length (hundredths_text hundredths) ≤ length out.old }
     ensures bytes { out.new ≡ placed out.old at (hundredths_text hundredths) }

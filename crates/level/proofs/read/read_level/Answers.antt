@@ -27,4 +27,4 @@ returns-else-is_text_of c =
     let g : SFits w32 c.in-Ok.level = search rules in
     let same = to_z-of_z w32 c.in-Ok.level g ∙ c.in-Ok.ensures.1 ∙ to_z-of_z w64 c.candidate.result f ∙ c.candidate.ensures in
     let e = refused c.args.text.now _ same (not_from_Decides c.is_text_of.result c.is_text_of.ensures c.if-is_text_of.false) in
-    record { answer = e; law = obeys _ _ e; round_trip = round_trip; distinct = no_two_share }
+    record { answer = search (rules, e); law = obeys _ _ (search (rules, e)); round_trip = round_trip; distinct = no_two_share }
