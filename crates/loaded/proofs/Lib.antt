@@ -2,7 +2,6 @@ pub mod BookW
 pub mod Reading
 pub mod Rows
 pub mod PickKinds
-pub mod Decoding
 pub mod Filling
 pub mod Laid
 pub mod Apart

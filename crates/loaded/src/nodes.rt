@@ -33,6 +33,7 @@ pub(crate) fn within_limits(records: &[u8], count: usize) -> bool
 }
 
 /// Whether each first entry is the sum of the places of all earlier nodes.
+#[tactic(auto, using(crate::proofs::Rows::left_next))]
 pub(crate) fn firsts_add_up(records: &[u8], count: usize) -> bool
     requires { (count * 4 ≤ length records.now) × (count ≤ 512) }
     ensures { result ≡ firsts_add_up 0 (nodes_from count records.now) }

@@ -27,6 +27,7 @@ pub(crate) struct Sections<'a> {
 }
 
 /// The count at the front of a section.
+#[tactic(auto, unfolding(crate::specs::Reading::count_in))]
 fn read_count(bytes: &[u8], least: usize, most: usize) -> Result<usize, FileFault>
     ensures seen { seen (λ n. read n (drop 2 bytes.now)) result ≡ count_in least most bytes.now }
     ensures within { IfOk result (λ n. (2 ≤ length bytes.now) × (least ≤ n) × (n ≤ most)) }
@@ -42,6 +43,7 @@ fn read_count(bytes: &[u8], least: usize, most: usize) -> Result<usize, FileFaul
 }
 
 /// So many records of this size, and the bytes after them.
+#[tactic(auto, unfolding(crate::specs::Reading::records_in))]
 fn read_records(bytes: &[u8], count: usize, size: usize) -> Result<Section<'_>, FileFault>
     requires { count * size < 65536 }
     ensures seen { seen (λ s. read s.records.now s.rest.now) result ≡ records_in count size bytes.now }
@@ -58,6 +60,7 @@ fn read_records(bytes: &[u8], count: usize, size: usize) -> Result<Section<'_>, 
     })
 }
 
+#[tactic(auto, unfolding(crate::specs::Decode::node_section))]
 fn read_nodes(bytes: &[u8]) -> Result<Section<'_>, FileFault>
     ensures seen { seen (with_rest nodes_in) result ≡ node_section bytes.now }
     ensures lawful { IfOk result LawfulNodes }
@@ -70,6 +73,7 @@ fn read_nodes(bytes: &[u8]) -> Result<Section<'_>, FileFault>
     Ok(section)
 }
 
+#[tactic(auto, unfolding(crate::specs::Decode::entry_section))]
 fn read_entries(bytes: &[u8], places: usize) -> Result<Section<'_>, FileFault>
     ensures seen { seen (with_rest places_in) result ≡ entry_section places bytes.now }
     ensures lawful { IfOk result (LawfulEntries places) }
@@ -81,6 +85,7 @@ fn read_entries(bytes: &[u8], places: usize) -> Result<Section<'_>, FileFault>
     read_records(&bytes[COUNT..], count, ENTRY)
 }
 
+#[tactic(auto, unfolding(crate::specs::Decode::pick_section))]
 fn read_picks(bytes: &[u8]) -> Result<Section<'_>, FileFault>
     ensures seen { seen (with_rest kinds_in) result ≡ pick_section bytes.now }
     ensures lawful { IfOk result LawfulPicks }
@@ -94,6 +99,7 @@ fn read_picks(bytes: &[u8]) -> Result<Section<'_>, FileFault>
 }
 
 /// The three sections, or the first fault in them.
+#[tactic(auto, unfolding(crate::specs::Decode::three_sections))]
 pub(crate) fn read_sections(bytes: &[u8]) -> Result<Sections<'_>, FileFault>
     ensures seen { seen sections_seen result ≡ three_sections bytes.now }
     ensures lawful { IfOk result LawfulSections }

@@ -17,6 +17,7 @@ use refusal::hands::FileFault;
 
 impl Loaded {
     /// Takes the book in these bytes in place of the one held. A refused load leaves that one.
+    #[tactic(auto, unfolding(crate::specs::Decode::decode))]
     pub fn load(&mut self, bytes: &[u8]) -> Result<(), FileFault>
         ensures answer { answered file_told result ≡ load_answer (decode bytes.now) }
         ensures book { loaded_model self.new ≡ held_after (decode bytes.now) (loaded_model self.old) }

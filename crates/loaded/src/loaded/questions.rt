@@ -51,6 +51,7 @@ impl Book for Loaded {
         self.places[record.first as usize + index as usize]
     }
 
+    #[tactic(auto, using(crate::specs::TablesLemmas::kind_found))]
     fn kind(&self, pick: u16) -> Option<Kind> {
         self.kinds.get(pick as usize).copied()
     }
