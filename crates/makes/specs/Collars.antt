@@ -43,15 +43,12 @@ sizes_of_lem joints long e =
 pub down_most : (j long : ℕ) → j < 1000 → long ≤ 5000 → j * long ≤ 4995000
 down_most j long h k = mul-le j long 999 5000 (omega arith) k
 
-fits_wide : (z : ℤ) → negsuc 19999999 ≤ℤ z → z ≤ℤ most_coordinate → FitsSigned w32 z
+pub fits_wide : (z : ℤ) → negsuc 19999999 ≤ℤ z → z ≤ℤ most_coordinate → FitsSigned w32 z
 fits_wide (pos n) p q = record { sfits = omega (arith, ints) }
 fits_wide (negsuc n) p q = record { sfits = omega (arith, ints) }
 
 pub down_fits : (d : ℕ) → d ≤ 4995000 → FitsSigned w32 (pos d)
 down_fits d h = record { sfits = omega arith }
-
-pub level_fits : (top : Point) (long j : ℕ) → point_in_range top ≡ true → j * long ≤ 4995000 → FitsSigned w32 (to_z w32 (of_z w32 top.level) -ℤ to_z w32 (j * long))
-level_fits top long j e h = let r = ranges top e in fits_wide _ (omega (arith, ints, r.2)) (omega (arith, ints, r.2))
 
 pub east_is : (x : ℤ) → (least_coordinate ≤ℤ x) × (x ≤ℤ most_coordinate) → to_z w32 (of_z w32 x) ≡ x
 east_is x r = omega (arith, ints)

@@ -37,6 +37,9 @@ ranges p e =
     let b = and_parts (in_range p.northing) (in_range p.level) a.1 in
     (in_range_lem p.easting a.0, in_range_lem p.northing b.0, in_range_lem p.level b.1)
 
+pub range_of : (p : Point) → InRange p.easting → InRange p.northing → InRange p.level → point_in_range p ≡ true
+range_of p x y z = and_from _ _ (is_range p.easting x) (and_from _ _ (is_range p.northing y) (is_range p.level z))
+
 -- what the code makes of the opposite amounts
 abbrev turned : Point → Point
 turned p =
@@ -46,6 +49,12 @@ turned p =
       level = held (pos 0 -ℤ held p.level);
     }
 
+pub held_in : (x : ℤ) → InRange x → InRange (held x)
+held_in x h = (omega (arith, ints), omega (arith, ints))
+
+pub turned_in : (x : ℤ) → InRange x → InRange (held (pos 0 -ℤ held x))
+turned_in x h = (omega (arith, ints), omega (arith, ints))
+
 turn : (x : ℤ) → InRange x → held (pos 0 -ℤ held x) ≡ neg_ℤ x
 turn x h = omega (arith, ints)
 
@@ -53,14 +62,6 @@ pub turned_is : (o : Offset) → turned o.by ≡ opposite o.by
 turned_is o =
     let r = ranges o.by o.tested in
     same_point (turned o.by) (opposite o.by) (turn o.by.easting r.0) (turn o.by.northing r.1) (turn o.by.level r.2)
-
-opposite_in : (x : ℤ) → InRange x → in_range (neg_ℤ x) ≡ true
-opposite_in x h = is_range (neg_ℤ x) (omega (arith, ints), omega (arith, ints))
-
-pub opposite_tested : (o : Offset) → point_in_range (opposite o.by) ≡ true
-opposite_tested o =
-    let r = ranges o.by o.tested in
-    and_from _ _ (opposite_in o.by.easting r.0) (and_from _ _ (opposite_in o.by.northing r.1) (opposite_in o.by.level r.2))
 
 -- what the code makes of two amounts
 abbrev added : Point → Point → Point
