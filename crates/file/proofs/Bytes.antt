@@ -1,7 +1,7 @@
 -- Numbers as bytes.
 use Rattle.std.proofs.Common.{◌≡◌, ℕ, zero, suc, ◌/◌, ◌%◌, List, [], ◌∷◌, length, ℤ, pos, negsuc, sym, refl, ap, ◌∙◌, arith, w32, SFits, to_z, of_z}
 use Rattle.std.proofs.lemmas.Int.{to_z-of_z}
-use Rattle.file.specs.Encode.{bytes_of, twos_complement, le16, le32}
+use Rattle.file.specs.Encode.{bytes_of, twos_complement, le32}
 
 pub length_bytes_of : (k n : ℕ) → length (bytes_of k n) ≡ k
 unfolding bytes_of
@@ -11,10 +11,6 @@ length_bytes_of (suc k) n = ap suc (length_bytes_of k (n / 256))
 pub twos_complement_is : (z : ℤ) → twos_complement z ≡ of_z w32 z
 twos_complement_is (pos n) = refl
 twos_complement_is (negsuc n) = refl
-
-pub le16_is : (n : ℕ) → n % 256 ∷ n / 256 % 256 ∷ [] ≡ le16 n
-unfolding bytes_of
-le16_is n = refl
 
 abbrev four_bytes : ℕ → List ℕ
 four_bytes n = n % 256 ∷ n / 256 % 256 ∷ n / 65536 % 256 ∷ n / 16777216 % 256 ∷ []

@@ -8,6 +8,7 @@ ghost use Rattle.file.specs.Put.{Put};
 use geometry::bounds::Point;
 
 /// Puts the bytes into `out` from `at` on.
+#[tactic(auto, using(crate::proofs::Placing::written_part))]
 pub(crate) fn put_bytes(bytes: &[u8], out: &mut [u8], at: usize) -> usize
     requires { at + length bytes.now ≤ length out.old }
     ensures { Put out.old at bytes.now out.new result }
@@ -18,6 +19,7 @@ pub(crate) fn put_bytes(bytes: &[u8], out: &mut [u8], at: usize) -> usize
 }
 
 /// Puts a 16-bit number.
+#[tactic(auto, unfolding(crate::specs::Encode::bytes_of))]
 pub(crate) fn put_u16(number: u16, out: &mut [u8], at: usize) -> usize
     requires { at + 2 ≤ length out.old }
     ensures { Put out.old at (le16 number) out.new result }

@@ -1,4 +1,4 @@
-use Rattle.std.proofs.Common.{◌<◌, ◌≤◌, refl, arith}
+use Rattle.std.proofs.Common.{◌<◌, ◌≤◌, refl, arith, rules}
 use Rattle.std.proofs.lemmas.List.{at_drop_all}
 use Rattle.book.specs.Model.{node_count, node_of, place_count}
 use Rattle.file.specs.Encode.{node_record, node_records}
@@ -22,7 +22,7 @@ loop-node-preserved g c =
     let n = c.loop-node.node in
     let within : n < node_count m = omega arith in
     let next = nodes_next c.loop-node.first c.place_count.result m.nodes n within c.place_count.ensures in (
-      left_more c.loop-node.invariant.0 (node_record c.loop-node.first (node_of m n)) _ next c.put_node-at.ensures,
+      left_more c.loop-node.invariant.0 (node_record c.loop-node.first (node_of m n)) _ next (search rules),
       omega (arith, c.place_count.ensures, c.loop-node.invariant.1, places_next m.nodes n within),
     )
 

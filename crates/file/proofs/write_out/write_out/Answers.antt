@@ -13,7 +13,8 @@ returns-then-out-file_length g c =
     let few : total_places m ≤ 2048 = omega arith in
     let short : length xs < length (encode m) = omega (arith, c.file_length.ensures) in
     let refused = too_short m xs few c.in_default.ensures short in
-    record { answer = refused; bytes = untouched m xs (plain 21) refused }
+    let kept = untouched m xs (plain 21) refused in
+    record { answer = cc; bytes = cc }
 
 pub put_nodes-at-requires : goal.put_nodes-at-requires
 put_nodes-at-requires g c =

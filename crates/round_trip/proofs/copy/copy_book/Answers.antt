@@ -1,6 +1,6 @@
-use Rattle.std.proofs.Common.{length, Err, ap, ◌∙◌}
+use Rattle.std.proofs.Common.{length, Err, ap, ◌∙◌, rules}
 use Rattle.std.proofs.lemmas.Result.{err_from_is_err_and}
-use Rattle.refusal.specs.Told.{answered, told}
+use Rattle.refusal.specs.Told.{answered, told, file_told}
 use Rattle.loaded.specs.Loaded.{loaded_model}
 use Rattle.round_trip.proofs.Copies.{reads_back, copied, not_copied, not_refused}
 use Rattle.round_trip.proofs.WrittenLoads.{written_loads}
@@ -25,7 +25,7 @@ returns-in_err-load g c =
     let room = c.args.room.now in
     let done = c.in_ok-length.ensures.answer in
     let back = reads_back m room c.in_ok-length.length done (g.met.B.Book.shape c.args.book.now) c.write_out.new.out c.in_ok-length.ensures.bytes in
-    not_refused _ m _ back c.in_err-load.ensures.answer
+    not_refused _ m (file_told c.in_err-load.field-0.0) back (search rules)
 
 pub returns : goal.returns
 returns g c =
@@ -35,8 +35,8 @@ returns g c =
     let done = c.in_ok-length.ensures.answer in
     let back = reads_back m room c.in_ok-length.length done (g.met.B.Book.shape c.args.book.now) c.write_out.new.out c.in_ok-length.ensures.bytes in
     record {
-      answer = done;
+      answer = search rules;
       bytes = c.in_ok-length.ensures.bytes;
-      book = copied m room c.in_ok-length.length done _ held _ back c.load.ensures.book;
+      book = copied m room c.in_ok-length.length done _ held _ back (search rules);
       loads = written_loads;
     }

@@ -10,15 +10,12 @@ use Rattle.round_trip.proofs.copy.copy_file.Goals as goal
 
 pub returns-in_err-load : goal.returns-in_err-load
 returns-in_err-load c =
-    let bytes = c.args.bytes.now in
     let p = err_from_is_err_and c.from_residual.result c.from_residual.ensures.1 in
-    let no = refused (decode bytes) _ c.in_err-load.ensures.answer in
-    record {
-      answer = ap (answered told) p.1 ∙ ap (λ t. Err t) p.2 ∙ refused_answer bytes _ no (length c.args.room.now);
-      bytes = refused_leaves bytes _ no c.args.room.now;
-      book = c.load.ensures.book;
-      writes = loaded_writes;
-    }
+    let no = refused _ _ c.in_err-load.ensures.answer in
+    let told_so = ap (answered told) p.1 ∙ ap (λ t. Err t) p.2 in
+    let answer = refused_answer _ _ no (length c.args.room.now) in
+    let leaves = refused_leaves _ _ no c.args.room.now in
+    record { answer = cc; bytes = cc; book = c.load.ensures.book; writes = loaded_writes }
 
 pub returns : goal.returns
 returns c =
@@ -28,9 +25,6 @@ returns c =
     let small = All-from_get_or (λ b. b < 256) bytes 0 (λ i within. omega (arith, c.type_inv.bytes i)) in
     let is = accepted (decode bytes) (loaded_model c.args.held.now) m c.in_ok-load.ensures.answer c.load.ensures.book in
     let k = kept bytes m small is in
-    record {
-      answer = c.write_out.ensures.answer ∙ same_answer bytes m is k (length room);
-      bytes = c.write_out.ensures.bytes ∙ same_leaves bytes m is k room;
-      book = c.load.ensures.book;
-      writes = loaded_writes;
-    }
+    let answer = same_answer bytes m is k (length room) in
+    let leaves = same_leaves bytes m is k room in
+    record { answer = cc; bytes = cc; book = c.load.ensures.book; writes = loaded_writes }
