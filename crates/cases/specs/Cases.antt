@@ -45,8 +45,8 @@ minus (suc n) = negsuc n
 abbrev point : ℤ → ℤ → ℤ → Point
 point e n l = record { easting = e; northing = n; level = l }
 
-abbrev ground : Point
-ground = point (pos 0) (pos 0) (pos 0)
+abbrev at_ground : Point
+at_ground = point (pos 0) (pos 0) (pos 0)
 
 abbrev by : (Bounds → Bounds → ℕ) → Option Bounds → Option Bounds → List ℕ
 by measure (Some q) (Some b) = measure q b ∷ []
@@ -71,7 +71,7 @@ far_from (Some q) b = euclidean q b
 far_from None b = 0
 
 abbrev far : Far
-far = far_from (bounds_at ground ground)
+far = far_from (bounds_at at_ground at_ground)
 
 -- each row as pick and distance
 abbrev row_numbers : List Row → List ℕ
@@ -91,10 +91,10 @@ first_next limit = answer_numbers (next_of book_w far limit (opening book_w)).0
 
 -- 17 joints of 30 feet, hanging from ground
 abbrev joints : Model
-joints = tallied ground 17 3000
+joints = tallied at_ground 17 3000
 
 abbrev string : Model
-string = tallied ground 1000 100
+string = tallied at_ground 1000 100
 
 abbrev two_strings : Model
 two_strings = joined string string
@@ -107,9 +107,9 @@ check_number (Err refusal) = refusal.number
 abbrev pub cases : List Case
 cases =
     -- the pick at (300, 400, -35), from ground
-    case (from euclidean ground pick) (251225 ∷ [])
-    ∷ case (from manhattan ground pick) (735 ∷ [])
-    ∷ case (from chessboard ground pick) (400 ∷ [])
+    case (from euclidean at_ground pick) (251225 ∷ [])
+    ∷ case (from manhattan at_ground pick) (735 ∷ [])
+    ∷ case (from chessboard at_ground pick) (400 ∷ [])
     -- a level below zero keeps its minus, also within the first foot
     ∷ case (level_text (minus 35)) (codes "-0.35")
     ∷ case (level_text (minus 5)) (codes "-0.05")
@@ -130,5 +130,5 @@ cases =
     ∷ case (node_count two_strings ∷ check_number (checked two_strings) ∷ []) (137 ∷ 12 ∷ [])
     ∷ []
 
-abbrev pub All-hold : Type 0
-All-hold = all_same cases ≡ true
+abbrev pub AllHold : Type 0
+AllHold = all_same cases ≡ true

@@ -13,6 +13,6 @@ use Rattle.browse.specs.Broken.{can_open}
 use Rattle.browse.specs.Browse.{next_of}
 use Rattle.cases.proofs.worked_cases.Goals as goal
 
-pub returns : goal.returns
+pub returns-clause-hold : goal.returns-clause-hold
 unfolding digits span_at euclidean manhattan chessboard bytes_of count_in records_in node_section entry_section pick_section three_sections decode can_open next_of by_sixteens joined total_places tree_fault checked
-returns c = record { hold = refl; count = refl }
+returns-clause-hold c = refl
