@@ -1,5 +1,5 @@
 -- A search never holds more than its tree: what is told, opened and waiting, with all below it, is the tree.
-use Rattle.std.proofs.Common.{◌≡◌, ℕ, ◌+◌, ◌-◌, ◌<◌, ◌≤◌, true, false, cond, leb, List, [], ◌∷◌, length, ap, arith}
+use Rattle.std.proofs.Common.{◌≡◌, ℕ, ◌+◌, ◌-◌, ◌<◌, ◌≤◌, true, false, leb, List, [], ◌∷◌, length, ap, arith}
 use Rattle.std.specs.List.{flat_map, AllByRecursion as All}
 use Rattle.std.proofs.lemmas.Bool.{cond_both}
 use Rattle.std.proofs.lemmas.List.Sums.{length-filter}
@@ -7,8 +7,8 @@ use Rattle.search.specs.declared.turn.Call.{Call}
 use Rattle.search.specs.declared.turn.Call.TheVariants.{Next, Report}
 use Rattle.search.specs.declared.turn.Turn.{Turn}
 use Rattle.search.specs.Tree.{Tree, below, nodes}
-use Rattle.search.specs.Answer.{Answer, none, told}
-use Rattle.search.specs.Glances.{Glance, done, on, follow}
+use Rattle.search.specs.Answer.{Answer, none}
+use Rattle.search.specs.Glances.{Glance, follow}
 use Rattle.search.specs.Search.{Standing, start, tell_first, open_first, glance, called, turned}
 use Rattle.search.proofs.Lists.{total, one, length_total, count_by_total}
 use Rattle.search.proofs.Waiting.{all_inserts, length_inserts}
@@ -56,10 +56,8 @@ module _ {X : Type 0} (t : Tree X) (Member : X → Type 0) (m : Members t Member
       at : (w : List X) (n k : ℕ) → Held t Member (stand w n k) → Leads (Held t Member) (glance t limit (stand w n k))
       at [] n k h = h
       at (x ∷ w) n k h =
-          let s = stand (x ∷ w) n k in
           let L : Glance (Answer X) (Standing X) → Type 0 = λ l. Leads (Held t Member) l in
-          cond_both (leb (t.distance x) limit) (cond (t.opens x) (on (open_first t s x w)) (done (told x n) (tell_first s w))) (done (none n) s) L
-          (λ _. cond_both (t.opens x) (on (open_first t s x w)) (done (told x n) (tell_first s w)) L (λ e. held_open x w n k h e) (λ e. held_tell x w n k h e)) (λ _. h)
+          cond_both (leb (t.distance x) limit) _ _ L (λ _. cond_both (t.opens x) _ _ L (λ e. held_open x w n k h e) (λ e. held_tell x w n k h e)) (λ _. h)
 
   pub held_turned : (s : Standing X) (u : Turn) → Held t Member s → Held t Member (turned t s u).1
   held_turned s u h = at u.call

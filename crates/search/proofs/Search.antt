@@ -213,16 +213,17 @@ module _ {X : Type 0} (t : Tree X) (Member : X → Type 0) (m : Members t Member
     -- nothing is left within the limit
     says_none : (os : List X) (s : Standing X) → Midway t Member l rows g os s → Below t (λ z. l < t.distance z) s.waiting → After t Member rows g (Next l) (none s.opened) s
     says_none os s p h =
-        let g' = greater g (Some l) in
+        let come = reach t.distance (Next l) (none s.opened) in
+        let g' = greater g come in
         let b : Between t Member rows g' os s =
         record {
           parted = p.parted;
           near =
               All-weaker (λ o. Within g (t.distance o) ⊎ ((t.distance o ≤ l) × Below t (λ z. t.distance o ≤ t.distance z) s.waiting)) (λ o. Within g' (t.distance o))
-              (λ o k. within_greater g (Some l) (t.distance o) (⊎_elim (λ a. inl a) (λ a. inr a.0) k)) os p.near;
+              (λ o k. within_greater g come (t.distance o) (⊎_elim (λ a. inl a) (λ a. inr a.0) k)) os p.near;
           beyond =
               below_both t (λ z. t.opens z ≡ true → Beyond g (t.distance z)) (λ z. l < t.distance z) (λ z. t.opens z ≡ true → Beyond g' (t.distance z))
-              (λ z a i e. beyond_greater g (Some l) (t.distance z) (a e) i) s.waiting p.beyond h;
+              (λ z a i e. beyond_greater g come (t.distance z) (a e) i) s.waiting p.beyond h;
           opened = p.opened;
           told = p.told;
         } in

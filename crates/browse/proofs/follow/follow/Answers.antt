@@ -1,7 +1,7 @@
-use Rattle.std.proofs.Common.{sym, ap, ◌∙◌, arith}
+use Rattle.std.proofs.Common.{◌≡◌, Some, sym, ap, ◌∙◌, arith}
 use Rattle.browse.specs.Browse.{next_of}
 use Rattle.browse.specs.Desk.{thing_of, standing, kids_held}
-use Rattle.browse.proofs.Nexts.{next_broken, next_opens, opening_fits, some_wait}
+use Rattle.browse.proofs.Nexts.{nearest, next_broken, next_opens, opening_fits, some_wait}
 use Rattle.browse.proofs.follow.follow.Goals as goal
 
 pub returns-in_default-kids_to_open : goal.returns-in_default-kids_to_open
@@ -9,7 +9,9 @@ returns-in_default-kids_to_open g c =
     let m = g.B.Book.model c.args.book.now in
     let far = g.M.Measure.distance c.args.measure.now c.args.query.now in
     let s = standing c.loop-first.desk in
-    sym c.loop-first.invariant ∙ next_broken m far c.args.limit s (thing_of c.in-Some.first) (sym c.in-Some.ensures) c.in-Node.is (sym c.in_default-kids_to_open.ensures)
+    let first : nearest c.args.limit s ≡ Some (thing_of c.in-Some.first) = grind (arith, c.in-Some.ensures) in
+    let broken = next_broken m far c.args.limit s (thing_of c.in-Some.first) first c.in-Node.is (sym c.in_default-kids_to_open.ensures) in
+    cc
 
 pub open-requires : goal.open-requires
 open-requires g c =

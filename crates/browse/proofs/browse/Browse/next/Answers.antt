@@ -1,4 +1,6 @@
+use Rattle.std.proofs.Common.{arith}
 use Rattle.search.specs.declared.turn.Call.TheVariants.{Next}
+use Rattle.browse.specs.Browse.{next_reply}
 use Rattle.browse.specs.Desk.{standing}
 use Rattle.browse.specs.Law.{taken}
 use Rattle.browse.proofs.Promises.{lawful_reply, nearest_reply}
@@ -11,7 +13,7 @@ returns-clause-law g c =
     let far = g.M.Measure.distance b.measure b.query in
     λ hand.
     lawful_reply m far (g.met.B.Book.shape b.book) (g.met.M.Measure.monotone b.measure b.query) (g.met.M.Measure.fits b.measure b.query) (standing b.desk)
-    (taken hand (Next c.args.limit)) _ _ c.follow.ensures
+    (taken hand (Next c.args.limit)) (next_reply c.follow.result) (standing c.follow.new.desk) (grind (arith, c.follow.ensures))
 
 pub returns-clause-nearest : goal.returns-clause-nearest
 returns-clause-nearest g c =
@@ -19,4 +21,4 @@ returns-clause-nearest g c =
     let m = g.B.Book.model b.book in
     let far = g.M.Measure.distance b.measure b.query in
     nearest_reply m far (g.met.B.Book.shape b.book) (g.met.M.Measure.monotone b.measure b.query) (g.met.M.Measure.fits b.measure b.query) (standing b.desk)
-    c.args.limit _ _ c.follow.ensures
+    c.args.limit (next_reply c.follow.result) (standing c.follow.new.desk) (grind (arith, c.follow.ensures))

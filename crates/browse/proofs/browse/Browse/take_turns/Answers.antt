@@ -22,8 +22,7 @@ loop-turn-preserved g c =
     let s = standing c.loop-turn.self.desk in
     let t = standing c.take_turn.new.self.desk in
     let parts = c.take_turn.ensures.parts in
-    let f : turned m far s (get_or turns i anyTurn) ≡ (reply c.take_turn.result, t) =
-    (λ j. turned (g.B.Book.model (sym k.1 j)) (g.M.Measure.distance (sym k.2 j) (sym k.3 j)) s (get_or turns i anyTurn)) ∙ c.take_turn.ensures.follows in
+    let f : turned m far s (get_or turns i anyTurn) ≡ (reply c.take_turn.result, t) = cc in
     let said = says_more m far (standing b.desk) turns s i (vec_items c.loop-turn.answers) k.0 anyTurn c.take_turn.result t (omega arith) f in
     let e = c.push_reserved.ensures in (
       subst (Saying m far (standing b.desk) turns t (i + 1)) (sym e.items) said,
