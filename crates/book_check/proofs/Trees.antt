@@ -185,8 +185,8 @@ module _ (m : Model) (acc : Accepted m) where
       record {
         few = acc.few;
         filled = λ n i l. let r = acc.filled n i l in (r.0, r.1);
-        picks_in_lem = λ n i e s h. names_in m acc n i (Pick e.target) (e, s, names_pick m n e h);
-        children_in_lem = λ n i e s h. (child_at m acc n i e.target e s (names_child m n e h)).0;
+        picks_in_book = λ n i e s h. names_in m acc n i (Pick e.target) (e, s, names_pick m n e h);
+        children_in_book = λ n i e s h. (child_at m acc n i e.target e s (names_child m n e h)).0;
         lower = λ n i e s h. omega (arith, (child_at m acc n i e.target e s (names_child m n e h)).1);
         inside = λ n i e s h. (child_at m acc n i e.target e s (names_child m n e h)).2;
         named = named_times;

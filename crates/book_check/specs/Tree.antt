@@ -30,8 +30,8 @@ times k xs = count_by (λ x. nat_eq x k) xs
 pub record Tree (m : Model) : Type 0 where
   pub few : total_places m ≤ 2048
   pub filled : (n i : ℕ) → i < place_count m n → (e : Entry) × Stands m n i e
-  pub picks_in_lem : (n i : ℕ) (e : Entry) → Stands m n i e → level_of m n ≡ 0 → e.target < pick_limit m
-  pub children_in_lem : (n i : ℕ) (e : Entry) → Stands m n i e → 0 < level_of m n → e.target < root_of m
+  pub picks_in_book : (n i : ℕ) (e : Entry) → Stands m n i e → level_of m n ≡ 0 → e.target < pick_limit m
+  pub children_in_book : (n i : ℕ) (e : Entry) → Stands m n i e → 0 < level_of m n → e.target < root_of m
   pub lower : (n i : ℕ) (e : Entry) → Stands m n i e → 0 < level_of m n → level_of m e.target < level_of m n
   pub inside : (n i : ℕ) (e : Entry) → Stands m n i e → 0 < level_of m n →
       (j : ℕ) (f : Entry) → Stands m e.target j f → Within f.bounds e.bounds
