@@ -21,4 +21,4 @@ returns-then-not-is_empty-clause-lawful c =
 pub returns-clause-lawful : goal.returns-clause-lawful
 unfolding decode
 returns-clause-lawful c =
-    takes c.args.bytes.now (loaded_model c.args.self.now) (loaded_model c.fill.new.self) (Ok tt) c.type_inv.bytes (grind (arith, common_steps)) (grind (arith, common_steps))
+    takes c.args.bytes.now (loaded_model c.args.self.now) _ (Ok tt) c.type_inv.bytes (grind (arith, common_steps)) (grind (arith, common_steps))
