@@ -1,5 +1,5 @@
 -- Digits read one after another, and how large the number so far can be.
-use Rattle.std.proofs.Common.{◌≡◌, ℕ, ◌+◌, ◌-◌, ◌*◌, ◌^◌, ◌<◌, ◌≤◌, true, false, cond, ◌&&◌, ltb, leb, ◌⊎◌, List, length, get_or, drop, Some, None, sym, ap, ◌∙◌, inl, inr, pow-suc, add-one, arith, lit<}
+use Rattle.std.proofs.Common.{◌≡◌, ℕ, ◌+◌, ◌-◌, ◌*◌, ◌^◌, ◌<◌, ◌≤◌, Bool, true, false, cond, ◌&&◌, ltb, leb, ◌⊎◌, List, length, get_or, drop, Some, None, Option, refl, sym, ap, ◌∙◌, inl, inr, pow-suc, add-one, arith, lit<}
 use native.Mathlib.Nat.{pow-le-pow_right}
 use Rattle.std.proofs.lemmas.List.{at_drop_more, drop_all}
 use Rattle.std.proofs.lemmas.Bool.Decides.{nat_tests}
@@ -35,12 +35,17 @@ pub all_read : (bs : List ℕ) (i n : ℕ) → length bs ≤ i → (length bs �
 unfolding limit_of
 all_read bs i n past h k e = sym (ap (digits_from n) (drop_all i bs past)) ∙ e ∙ sym (ap (λ v. cond v (digits_from 0 bs) None) (in_length bs (omega arith) k))
 
+none_both : (t : Bool) (x : Option ℕ) → None ≡ x → None ≡ cond t x None
+none_both true x e = e
+none_both false x e = refl
+
 -- a byte that is no digit
-pub stopped : (bs : List ℕ) (i n : ℕ) → i < length bs → length bs ≤ 16 → (get_or bs i 0 < 48) ⊎ (57 < get_or bs i 0) → digits_from n (drop i bs) ≡ digits_from 0 bs → None ≡ limit_of bs
+pub stopped : (bs : List ℕ) (i n : ℕ) → i < length bs → (get_or bs i 0 < 48) ⊎ (57 < get_or bs i 0) → digits_from n (drop i bs) ≡ digits_from 0 bs → None ≡ limit_of bs
 unfolding limit_of
-stopped bs i n h k wrong so_far =
-    sym (at_drop_more (digits_from n) bs i 0 h ∙ ap (λ v. cond v (digits_from (n * 10 + (get_or bs i 0 - 48)) (drop (i + 1) bs)) None) (digit_no (get_or bs i 0) wrong))
-    ∙ so_far ∙ sym (ap (λ v. cond v (digits_from 0 bs) None) (in_length bs (omega arith) k))
+stopped bs i n h wrong so_far =
+    none_both (ltb 0 (length bs) && leb (length bs) 16) (digits_from 0 bs)
+    (sym (at_drop_more (digits_from n) bs i 0 h ∙ ap (λ v. cond v (digits_from (n * 10 + (get_or bs i 0 - 48)) (drop (i + 1) bs)) None) (digit_no (get_or bs i 0) wrong))
+        ∙ so_far)
 
 pub wrong_length : (bs : List ℕ) → (length bs ≡ 0) ⊎ (16 < length bs) → None ≡ limit_of bs
 unfolding limit_of

@@ -8,7 +8,7 @@ returns-then-text-eq0 c = wrong_length _ (⊎_elim inl (λ p. inr (omega (arith,
 
 pub returns-then-byte-lt48 : goal.returns-then-byte-lt48
 returns-then-byte-lt48 c =
-    stopped _ c.loop-byte.byte-index c.loop-byte.limit c.loop-byte-test.true (omega arith)
+    stopped _ c.loop-byte.byte-index c.loop-byte.limit c.loop-byte-test.true
     (elim c.then-byte-lt48.branch [ then-byte-lt48-via-then-byte-lt48 w ↦ inl w.if-byte-lt48.true | then-byte-lt48-via-else-byte-lt48+then-byte-gt57 w ↦ inr w.if-byte-gt57.true ])
     c.loop-byte.invariant.0
 

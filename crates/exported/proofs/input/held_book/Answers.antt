@@ -9,7 +9,7 @@ use Rattle.exported.proofs.input.held_book.Goals as goal
 pub returns-in-Ok-check : goal.returns-in-Ok-check
 returns-in-Ok-check c =
     let m = loaded_model c.load.new.self in
-    let e : decode c.args.file.now ≡ Ok m = file_held (decode c.args.file.now) m (loaded_model c.in-Ok.book) c.in-default-load.ensures.answer c.load.ensures.book in
+    let e : decode c.args.file.now ≡ Ok m = file_held (decode c.args.file.now) m (loaded_model c.in-Ok.book) c.in_default-load.ensures.answer c.load.ensures.book in
     let k : checked m ≡ Ok c.in-Ok-check.picks = sym c.in-Ok-check.ensures.answer in
     record {
       picks = ap (λ d. and_then d checked) e ∙ k;

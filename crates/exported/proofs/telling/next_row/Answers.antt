@@ -16,7 +16,7 @@ returns g c =
     record {
       parts = c.next.ensures.parts;
       follows = record {
-        row = ap (λ p. row_in (answer_in p.0)) e ∙ sym c.row-found.ensures;
+        row = ap (λ p. row_in (answer_in p.0)) e ∙ sym c.row_found.ensures;
         leads = ap (λ p. p.1) e;
         nearest = subst (TellsNearest m far s unlimited) (sym (ap (λ p. p.0) e)) c.next.ensures.nearest;
       };

@@ -23,16 +23,16 @@ loop-told-preserved g c =
     let lp = c.loop-told.browse in
     let k = c.loop-told.invariant in
     let s = standing lp.desk in
-    let t = standing c.next-row.new.browse.desk in
+    let t = standing c.next_row.new.browse.desk in
     let r = c.in-Some.row in
-    let parts = c.next-row.ensures.parts in
-    let f : Follows (loaded_model lp.book) (d lp.measure lp.query) (standing lp.desk) (Some r) (standing c.next-row.new.browse.desk) = c.in-Some.ensures.follows in
-    let f : Follows m (d lp.measure lp.query) s (Some r) t = subst (λ x. Follows (loaded_model x) (d lp.measure lp.query) (standing lp.desk) (Some r) (standing c.next-row.new.browse.desk)) k.1 f in
+    let parts = c.next_row.ensures.parts in
+    let f : Follows (loaded_model lp.book) (d lp.measure lp.query) (standing lp.desk) (Some r) (standing c.next_row.new.browse.desk) = c.in-Some.ensures.follows in
+    let f : Follows m (d lp.measure lp.query) s (Some r) t = subst (λ x. Follows (loaded_model x) (d lp.measure lp.query) (standing lp.desk) (Some r) (standing c.next_row.new.browse.desk)) k.1 f in
     let f : Follows m (d b.measure lp.query) s (Some r) t = subst (λ x. Follows m (d x lp.query) s (Some r) t) k.2 f in
     let f : Follows m (d b.measure b.query) s (Some r) t = subst (λ x. Follows m (d b.measure x) s (Some r) t) k.3 f in
     let before = c.args.rows.now in
     let more = tells_more m (d b.measure b.query) before s t c.loop-told.rows c.loop-told.told k.0 r c.requires.accepted f (omega arith) in (
-      subst (λ y. Telling m (d b.measure b.query) t before (set c.loop-told.rows c.loop-told.told y) (c.loop-told.told + 1)) (sym c.told-row.ensures) more,
+      subst (λ y. Telling m (d b.measure b.query) t before (set c.loop-told.rows c.loop-told.told y) (c.loop-told.told + 1)) (sym c.told_row.ensures) more,
       parts.0 ∙ k.1,
       parts.1 ∙ k.2,
       parts.2 ∙ k.3,
@@ -46,18 +46,18 @@ returns-after-loop-told g c =
     let e = ends_full (loaded_model b.book) (g.M.Measure.distance b.measure b.query) c.args.rows.now (standing c.loop-told.browse.desk) (standing c.loop-told.browse.desk) c.loop-told.rows c.loop-told.told k.0 (omega arith) k.4 in
     record { book = k.1; count = e.0; rows = e.1 }
 
-pub returns-in-default : goal.returns-in-default
-returns-in-default g c =
+pub returns-in_default : goal.returns-in_default
+returns-in_default g c =
     let b = c.args.browse.now in
     let m = loaded_model b.book in
     let d = g.M.Measure.distance in
     let lp = c.loop-told.browse in
     let k = c.loop-told.invariant in
     let s = standing lp.desk in
-    let t = standing c.next-row.new.browse.desk in
-    let f : Follows (loaded_model lp.book) (d lp.measure lp.query) (standing lp.desk) None (standing c.next-row.new.browse.desk) = c.in-default.ensures.follows in
-    let f : Follows m (d lp.measure lp.query) s None t = subst (λ x. Follows (loaded_model x) (d lp.measure lp.query) (standing lp.desk) None (standing c.next-row.new.browse.desk)) k.1 f in
+    let t = standing c.next_row.new.browse.desk in
+    let f : Follows (loaded_model lp.book) (d lp.measure lp.query) (standing lp.desk) None (standing c.next_row.new.browse.desk) = c.in_default.ensures.follows in
+    let f : Follows m (d lp.measure lp.query) s None t = subst (λ x. Follows (loaded_model x) (d lp.measure lp.query) (standing lp.desk) None (standing c.next_row.new.browse.desk)) k.1 f in
     let f : Follows m (d b.measure lp.query) s None t = subst (λ x. Follows m (d x lp.query) s None t) k.2 f in
     let f : Follows m (d b.measure b.query) s None t = subst (λ x. Follows m (d b.measure x) s None t) k.3 f in
     let e = ends_short m (d b.measure b.query) c.args.rows.now s t c.loop-told.rows c.loop-told.told k.0 c.requires.accepted (g.met.M.Measure.fits b.measure b.query) f k.4 in
-    record { book = c.next-row.ensures.parts.0 ∙ k.1; count = e.0; rows = e.1 }
+    record { book = c.next_row.ensures.parts.0 ∙ k.1; count = e.0; rows = e.1 }

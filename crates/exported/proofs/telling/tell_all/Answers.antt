@@ -22,34 +22,34 @@ loop-query-preserved g c =
     let l = c.loop-query in
     let q = c.query-item.result in
     let before = c.args.rows.now in
-    let e = c.first-rows-same.ensures in
+    let e = c.first_rows-same.ensures in
     let k = l.told + c.min.result - l.told in
     let part = mid_of l.told k l.rows in
     let least : k ≡ min c.args.each (length before - l.told) = least-is l.told c.min.result c.args.each (length l.rows) (length before) c.min.ensures l.auto.rows in
-    let count : c.first-rows-same.result.1 ≡ length (take (length part) (ranking m (far q))) = e.count ∙ ap (λ b. length (take (length part) (ranking (loaded_model b) (far q)))) l.invariant.1 in
-    let rows : c.first-rows-same.new.rows ≡ laid (take (length part) (ranking m (far q))) part = e.rows ∙ ap (λ b. laid (take (length part) (ranking (loaded_model b) (far q))) part) l.invariant.1 in (
+    let count : c.first_rows-same.result.1 ≡ length (take (length part) (ranking m (far q))) = e.count ∙ ap (λ b. length (take (length part) (ranking (loaded_model b) (far q)))) l.invariant.1 in
+    let rows : c.first_rows-same.new.rows ≡ laid (take (length part) (ranking m (far q))) part = e.rows ∙ ap (λ b. laid (take (length part) (ranking (loaded_model b) (far q))) part) l.invariant.1 in (
       lays_more far m c.args.each c.args.queries.now before l.query-index l.rows l.told l.invariant.0 q q
-          c.loop-query-test.true (sym c.query-item.is) k least c.first-rows-same.new.rows c.first-rows-same.result.1 count rows,
+          c.loop-query-test.true (sym c.query-item.is) k least c.first_rows-same.new.rows c.first_rows-same.result.1 count rows,
       e.book ∙ l.invariant.1,
       room_left far m c.args.each c.args.queries.now before l.query-index l.rows l.told l.invariant.0 q q
-          c.loop-query-test.true (sym c.query-item.is) k least c.first-rows-same.result.1 count l.invariant.2,
+          c.loop-query-test.true (sym c.query-item.is) k least c.first_rows-same.result.1 count l.invariant.2,
     )
 
-pub first-rows-same-requires : goal.first-rows-same-requires
-first-rows-same-requires g c = subst (λ b. Accepted (loaded_model b)) (sym c.loop-query.invariant.1) c.requires
+pub first_rows-same-requires : goal.first_rows-same-requires
+first_rows-same-requires g c = subst (λ b. Accepted (loaded_model b)) (sym c.loop-query.invariant.1) c.requires
 
-pub overflow-add-told : goal.overflow-add-told
-overflow-add-told g c =
+pub overflow_add-told : goal.overflow_add-told
+overflow_add-told g c =
     let far = g.M.Measure.distance c.args.measure in
     let l = c.loop-query in
     let q = c.query-item.result in
     let before = c.args.rows.now in
     let k = l.told + c.min.result - l.told in
     let least : k ≡ min c.args.each (length before - l.told) = least-is l.told c.min.result c.args.each (length l.rows) (length before) c.min.ensures l.auto.rows in
-    let le : l.told + c.first-rows-same.result.1 ≤ length before =
+    let le : l.told + c.first_rows-same.result.1 ≤ length before =
     room_left far (loaded_model c.args.book) c.args.each c.args.queries.now before l.query-index l.rows l.told l.invariant.0 q q
-    c.loop-query-test.true (sym c.query-item.is) k least c.first-rows-same.result.1
-    (c.first-rows-same.ensures.count ∙ ap (λ b. length (take (length (mid_of l.told k l.rows)) (ranking (loaded_model b) (far q)))) l.invariant.1) l.invariant.2 in
+    c.loop-query-test.true (sym c.query-item.is) k least c.first_rows-same.result.1
+    (c.first_rows-same.ensures.count ∙ ap (λ b. length (take (length (mid_of l.told k l.rows)) (ranking (loaded_model b) (far q)))) l.invariant.1) l.invariant.2 in
     search rules
 
 pub returns : goal.returns
