@@ -45,7 +45,7 @@ unfolding limit_of
 stopped bs i n h wrong so_far =
     none_both (ltb 0 (length bs) && leb (length bs) 16) (digits_from 0 bs)
     (sym (at_drop_more (digits_from n) bs i 0 h ∙ ap (λ v. cond v (digits_from (n * 10 + (get_or bs i 0 - 48)) (drop (i + 1) bs)) None) (digit_no (get_or bs i 0) wrong))
-        ∙ so_far)
+    ∙ so_far)
 
 pub wrong_length : (bs : List ℕ) → (length bs ≡ 0) ⊎ (16 < length bs) → None ≡ limit_of bs
 unfolding limit_of

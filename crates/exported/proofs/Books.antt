@@ -1,5 +1,5 @@
 -- A book that was loaded and checked is the one in the file.
-use Rattle.std.proofs.Common.{◌≡◌, ℕ, Ok, Err, Result, sym, ap, ◌∙◌, arith}
+use Rattle.std.proofs.Common.{◌≡◌, ℕ, Ok, Err, Result, sym, ap, arith}
 use Rattle.refusal.specs.Told.{Told}
 use Rattle.book.specs.Model.{Model}
 use Rattle.loaded.specs.Load.{load_answer, held_after}

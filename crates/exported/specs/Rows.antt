@@ -1,5 +1,5 @@
 -- Which rows are told, and where they stand.
-use Rattle.std.specs.Prelude.{◌≡◌, ℕ, ◌⊎◌, List, [], ◌∷◌, ◌++◌, map, length, take, drop, Ok, Err, Result}
+use Rattle.std.specs.Prelude.{◌≡◌, ℕ, ◌⊎◌, List, ◌++◌, map, length, take, drop, Ok, Err, Result}
 use Rattle.std.specs.List.{flat_map}
 use Rattle.refusal.specs.Told.{Told}
 use Rattle.geometry.specs.declared.bounds.Bounds.{Bounds}

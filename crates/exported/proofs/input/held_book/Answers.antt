@@ -1,4 +1,4 @@
-use Rattle.std.proofs.Common.{◌≡◌, Ok, sym, refl, ap, ◌∙◌}
+use Rattle.std.proofs.Common.{◌≡◌, Ok, sym, ap, ◌∙◌}
 use Rattle.book_check.specs.Checked.{checked}
 use Rattle.loaded.specs.Decode.{decode}
 use Rattle.loaded.specs.Loaded.{loaded_model}

@@ -1,4 +1,4 @@
-use Rattle.std.proofs.Common.{◌≡◌, sym, refl, ap, ◌∙◌, subst}
+use Rattle.std.proofs.Common.{◌≡◌, sym, ap, ◌∙◌, subst}
 use Rattle.loaded.specs.Loaded.{loaded_model}
 use Rattle.search.specs.Answer.{row_in}
 use Rattle.browse.specs.Browse.{next_reply, next_of}

@@ -1,4 +1,4 @@
-use Rattle.std.proofs.Common.{◌≡◌, ◌+◌, length, set, Some, None, sym, refl, ◌∙◌, subst, arith}
+use Rattle.std.proofs.Common.{◌+◌, set, Some, None, sym, refl, ◌∙◌, subst, arith}
 use Rattle.loaded.specs.Loaded.{loaded_model}
 use Rattle.browse.specs.Desk.{standing}
 use Rattle.exported.specs.Following.{Follows}
