@@ -25,15 +25,14 @@ loop-query-preserved g c =
     let e = c.first_rows-same.ensures in
     let k = l.told + c.min.result - l.told in
     let part = mid_of l.told k l.rows in
-    let least : k ≡ min c.args.each (length before - l.told) = least-is l.told c.min.result c.args.each (length l.rows) (length before) c.min.ensures l.auto.rows in
+    let least : k ≡ min c.args.each (length before - l.told) = least-is l.told c.min.result c.args.each (length l.rows) (length before) (search rules) l.auto.rows in
     let count : c.first_rows-same.result.1 ≡ length (take (length part) (ranking m (far q))) = e.count ∙ ap (λ b. length (take (length part) (ranking (loaded_model b) (far q)))) l.invariant.1 in
-    let rows : c.first_rows-same.new.rows ≡ laid (take (length part) (ranking m (far q))) part = e.rows ∙ ap (λ b. laid (take (length part) (ranking (loaded_model b) (far q))) part) l.invariant.1 in (
-      lays_more far m c.args.each c.args.queries.now before l.query-index l.rows l.told l.invariant.0 q q
-          c.loop-query-test.true (sym c.query-item.is) k least c.first_rows-same.new.rows c.first_rows-same.result.1 count rows,
-      e.book ∙ l.invariant.1,
-      room_left far m c.args.each c.args.queries.now before l.query-index l.rows l.told l.invariant.0 q q
-          c.loop-query-test.true (sym c.query-item.is) k least c.first_rows-same.result.1 count l.invariant.2,
-    )
+    let rows : c.first_rows-same.new.rows ≡ laid (take (length part) (ranking m (far q))) part = e.rows ∙ ap (λ b. laid (take (length part) (ranking (loaded_model b) (far q))) part) l.invariant.1 in
+    let more = lays_more far m c.args.each c.args.queries.now before l.query-index l.rows l.told l.invariant.0 q q
+    c.loop-query-test.true (sym c.query-item.is) k least c.first_rows-same.new.rows c.first_rows-same.result.1 count rows in
+    let room = room_left far m c.args.each c.args.queries.now before l.query-index l.rows l.told l.invariant.0 q q
+    c.loop-query-test.true (sym c.query-item.is) k least c.first_rows-same.result.1 count l.invariant.2 in
+    (search rules, e.book ∙ l.invariant.1, search rules)
 
 pub first_rows-same-requires : goal.first_rows-same-requires
 first_rows-same-requires g c = subst (λ b. Accepted (loaded_model b)) (sym c.loop-query.invariant.1) c.requires
