@@ -7,3 +7,5 @@ pub mod exports;
 mod fault;
 mod input;
 mod telling;
+#[cfg(test)]
+mod tests;
