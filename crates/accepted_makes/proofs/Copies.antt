@@ -1,10 +1,9 @@
 -- An accepted book whose nodes stand in another book, behind what stands before them.
-use Rattle.std.proofs.Common.{◌≡◌, ℕ, ◌+◌, ◌-◌, ◌<◌, ◌≤◌, Bool, true, false, cond, eqb, ltb, length, get_or, Some, sym, refl, ap, ◌∙◌, subst, ⊎_elim, arith}
+use Rattle.std.proofs.Common.{◌≡◌, ℕ, ◌+◌, ◌-◌, ◌<◌, ◌≤◌, Bool, true, false, cond, eqb, ltb, length, get_or, Some, sym, refl, ap, ◌∙◌, subst, ⊎_elim, arith, None}
 use Rattle.std.proofs.Math.ListN.{get_or-map}
 use Rattle.std.proofs.lemmas.Bool.{cond-true, lt-ltb, cases_lt}
 use Rattle.book.specs.Model.{Model, Node, node_of, node_count, pick_limit, level_of, place_count, place_of}
 use Rattle.book.specs.declared.place.Entry.{Entry}
-use Rattle.book.specs.declared.place.Place.TheVariants.{Filled, Spoilt}
 use Rattle.geometry.specs.Within.{Within}
 use Rattle.geometry.specs.declared.bounds.Bounds.{Bounds}
 use Rattle.book_check.specs.Targets.{target_of}
@@ -55,8 +54,8 @@ module _ (m b : Model) (before : Sizes) (acc : Accepted b)
 
   place_copied : (n i : ℕ) → n < node_count b → place_of m (before.nodes + n) i ≡ renumbered (sizes_of b) before (level_of b n) (place_of b n i)
   place_copied n i h =
-      ap (λ (x : Node). get_or x.places i Spoilt) (copy n h)
-      ∙ get_or-map (renumbered (sizes_of b) before (level_of b n)) (node_of b n).places i Spoilt
+      ap (λ (x : Node). get_or x.places i None) (copy n h)
+      ∙ get_or-map (renumbered (sizes_of b) before (level_of b n)) (node_of b n).places i None
 
   own : (n i : ℕ) (e : Entry) → Stands b n i e → e.target < count_at (sizes_of b) (level_of b n)
   own n i e s = own_number b (eqb (level_of b n) 0) e.target (names_in b acc n i (target_of b n e) (e, s, refl))
@@ -65,7 +64,7 @@ module _ (m b : Model) (before : Sizes) (acc : Accepted b)
   forward n i e h s =
       place_copied n i h
       ∙ ap (renumbered (sizes_of b) before (level_of b n)) s
-      ∙ cond-true (ltb e.target (count_at (sizes_of b) (level_of b n))) (Filled (moved n e)) Spoilt (lt-ltb _ _ (own n i e s))
+      ∙ cond-true (ltb e.target (count_at (sizes_of b) (level_of b n))) (Some (moved n e)) None (lt-ltb _ _ (own n i e s))
 
   back : (n i : ℕ) (f : Entry) → n < node_count b → Stands m (before.nodes + n) i f → (e : Entry) × Stands b n i e × (moved n e ≡ f)
   back n i f h s =
@@ -122,8 +121,8 @@ module _ (m b : Model) (before : Sizes) (acc : Accepted b)
     last_in : last < node_count b
     last_in = omega arith
 
-    stays : (i : ℕ) (f : Entry) → Stands m (before.nodes + last) i f → get_or (renumbered_node (sizes_of b) before (rootNode b)).places i Spoilt ≡ Filled f
-    stays i f s = sym (ap (λ (x : Node). get_or x.places i Spoilt) (copy last last_in)) ∙ s
+    stays : (i : ℕ) (f : Entry) → Stands m (before.nodes + last) i f → get_or (renumbered_node (sizes_of b) before (rootNode b)).places i None ≡ Some f
+    stays i f s = sym (ap (λ (x : Node). get_or x.places i None) (copy last last_in)) ∙ s
 
     stays_in : (i : ℕ) (f : Entry) → Stands m (before.nodes + last) i f → i < length (renumbered_node (sizes_of b) before (rootNode b)).places
     stays_in i f s = omega (arith, place_there m (before.nodes + last) i f s, ap (λ (x : Node). length x.places) (copy last last_in))

@@ -1,10 +1,9 @@
 -- Two accepted books, joined, are accepted.
-use Rattle.std.proofs.Common.{◌≡◌, ℕ, zero, suc, ◌+◌, ◌-◌, ◌<◌, ◌≤◌, cond, eqb, ltb, ◌⊎◌, [], ◌∷◌, length, get_or, Some, Ok, Result, sym, refl, ap, ◌∙◌, subst, inl, inr, ⊎_elim, arith}
+use Rattle.std.proofs.Common.{◌≡◌, ℕ, zero, suc, ◌+◌, ◌-◌, ◌<◌, ◌≤◌, cond, eqb, ltb, ◌⊎◌, [], ◌∷◌, length, get_or, Some, Ok, Result, sym, refl, ap, ◌∙◌, subst, inl, inr, ⊎_elim, arith, None}
 use Rattle.refusal.specs.declared.hands.TreeFault.{TreeFault}
 use Rattle.std.proofs.lemmas.Bool.{cond-true, cond-false, lt-ltb, le-ltb, eq-eqb, ne_eqb, cases_lt}
 use Rattle.book.specs.Model.{Model, BookShape, Node, node_of, node_count, pick_limit, level_of, place_count}
 use Rattle.book.specs.declared.place.Entry.{Entry}
-use Rattle.book.specs.declared.place.Place.TheVariants.{Filled, Spoilt}
 use Rattle.geometry.specs.declared.bounds.Bounds.{Bounds}
 use Rattle.book_check.specs.Targets.{target_of, root_of}
 use Rattle.book_check.specs.Totals.{total_places}
@@ -51,7 +50,7 @@ module _ (l r : Model) (some-l : 0 < node_count l) (some-r : 0 < node_count r) (
   second = record { bounds = right_box.0; target = nl + nr - 1 }
 
   abbrev newest : Node
-  newest = record { level = (rootNode l).level + 1; places = Filled first ∷ Filled second ∷ [] }
+  newest = record { level = (rootNode l).level + 1; places = Some first ∷ Some second ∷ [] }
 
   root_is : node_of m (nl + nr) ≡ newest
   root_is =
@@ -68,18 +67,18 @@ module _ (l r : Model) (some-l : 0 < node_count l) (some-r : 0 < node_count r) (
   root_target e = names_child m (nl + nr) e (omega (arith, root_level))
 
   root_first : Stands m (nl + nr) 0 first
-  root_first = ap (λ (x : Node). get_or x.places 0 Spoilt) root_is
+  root_first = ap (λ (x : Node). get_or x.places 0 None) root_is
 
   root_second : Stands m (nl + nr) 1 second
-  root_second = ap (λ (x : Node). get_or x.places 1 Spoilt) root_is
+  root_second = ap (λ (x : Node). get_or x.places 1 None) root_is
 
   root_back : (i : ℕ) (f : Entry) → Stands m (nl + nr) i f → ((i ≡ 0) × (first ≡ f)) ⊎ ((i ≡ 1) × (second ≡ f))
   root_back zero f s = inl (refl, same_entry m (nl + nr) 0 first f root_first s)
   root_back (suc zero) f s = inr (refl, same_entry m (nl + nr) 1 second f root_second s)
-  root_back (suc (suc i)) f s = never (sym (ap (λ (x : Node). get_or x.places (suc (suc i)) Spoilt) root_is) ∙ s)
+  root_back (suc (suc i)) f s = never (sym (ap (λ (x : Node). get_or x.places (suc (suc i)) None) root_is) ∙ s)
 
   past_none : {P : Type 0} (n i : ℕ) (e : Entry) → nl + nr < n → Stands m n i e → P
-  past_none n i e h s = never (sym (ap (λ (x : Node). get_or x.places i Spoilt) (past_node l r n h)) ∙ s)
+  past_none n i e h s = never (sym (ap (λ (x : Node). get_or x.places i None) (past_node l r n h)) ∙ s)
 
   -- ---- every place holds an entry that names what is there
 

@@ -9,8 +9,6 @@ use Rattle.std.proofs.lemmas.Bool.{not-false, eqb-true, eqb-false, or_parts, cas
 use Rattle.refusal.specs.Told.{Told, plain}
 use Rattle.book.specs.Model.{Model, Node, no_node, node_of, node_count, pick_limit}
 use Rattle.book.specs.declared.place.Entry.{Entry}
-use Rattle.book.specs.declared.place.Place.{Place}
-use Rattle.book.specs.declared.place.Place.TheVariants.{Filled, Spoilt}
 use Rattle.geometry.specs.Within.{Within}
 use Rattle.geometry.specs.declared.bounds.Bounds.{Bounds}
 use Rattle.book_check.specs.Totals.{total_places}
@@ -37,35 +35,35 @@ in_smallest bs r e i b h q =
     subst (LiesIn r) q (All-get_or (LiesIn r) bs i None h s.0)
 
 -- a box is kept whatever stands before its book
-box_kept : (own before : Sizes) (level : ℕ) (p : Place) → box_of (renumbered own before level p) ≡ box_of (renumbered own nothing level p)
-box_kept own before level (Filled e) = on (ltb e.target (count_at own level))
+box_kept : (own before : Sizes) (level : ℕ) (p : Option Entry) → box_of (renumbered own before level p) ≡ box_of (renumbered own nothing level p)
+box_kept own before level (Some e) = on (ltb e.target (count_at own level))
   where
-    on : (c : Bool) → box_of (cond c (Filled (record { bounds = e.bounds; target = count_at before level + e.target })) Spoilt) ≡ box_of (cond c (Filled (record { bounds = e.bounds; target = count_at nothing level + e.target })) Spoilt)
+    on : (c : Bool) → box_of (cond c (Some (record { bounds = e.bounds; target = count_at before level + e.target })) None) ≡ box_of (cond c (Some (record { bounds = e.bounds; target = count_at nothing level + e.target })) None)
     on true = refl
     on false = refl
-box_kept own before level Spoilt = refl
+box_kept own before level None = refl
 
 module _ (m : Model) (before : Sizes) where
-  abbrev copied : List Place
+  abbrev copied : List (Option Entry)
   copied = (renumbered_node (sizes_of m) before (root_of m)).places
 
   boxes_count : length (root_boxes m) ≡ length copied
   boxes_count = simp length-map
 
-  box_at_lem : (i : ℕ) → get_or (root_boxes m) i None ≡ box_of (get_or copied i Spoilt)
+  box_at_lem : (i : ℕ) → get_or (root_boxes m) i None ≡ box_of (get_or copied i None)
   box_at_lem i =
       let f = renumbered (sizes_of m) nothing (root_of m).level in
       let g = renumbered (sizes_of m) before (root_of m).level in
-      ListN.get_or-map box_of (map f (root_of m).places) i Spoilt
-      ∙ ap box_of (ListN.get_or-map f (root_of m).places i Spoilt)
-      ∙ sym (box_kept (sizes_of m) before (root_of m).level (get_or (root_of m).places i Spoilt))
-      ∙ ap box_of (sym (ListN.get_or-map g (root_of m).places i Spoilt))
+      ListN.get_or-map box_of (map f (root_of m).places) i None
+      ∙ ap box_of (ListN.get_or-map f (root_of m).places i None)
+      ∙ sym (box_kept (sizes_of m) before (root_of m).level (get_or (root_of m).places i None))
+      ∙ ap box_of (sym (ListN.get_or-map g (root_of m).places i None))
 
   -- an entry that stays in the root, wherever its book goes
-  pub root_some : (i : ℕ) (e : Entry) → i < length copied → get_or copied i Spoilt ≡ Filled e → (r : Bounds) × (root_box m ≡ Some r)
+  pub root_some : (i : ℕ) (e : Entry) → i < length copied → get_or copied i None ≡ Some e → (r : Bounds) × (root_box m ≡ Some r)
   root_some i e h s = smallest_some (root_boxes m) i e.bounds (omega (arith, boxes_count)) (box_at_lem i ∙ ap box_of s)
 
-  pub root_holds : (r : Bounds) → root_box m ≡ Some r → (i : ℕ) (e : Entry) → i < length copied → get_or copied i Spoilt ≡ Filled e → Within e.bounds r
+  pub root_holds : (r : Bounds) → root_box m ≡ Some r → (i : ℕ) (e : Entry) → i < length copied → get_or copied i None ≡ Some e → Within e.bounds r
   root_holds r p i e h s = in_smallest (root_boxes m) r p i e.bounds (omega (arith, boxes_count)) (box_at_lem i ∙ ap box_of s)
 
 -- ---- two books that fit

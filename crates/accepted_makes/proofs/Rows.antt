@@ -2,7 +2,6 @@
 use Rattle.std.proofs.Common.{◌≡◌, ℕ, ◌+◌, ◌-◌, ◌*◌, ◌<◌, min, List, length, get_or, Some, None, Option, sym, ap, ◌∙◌, arith}
 use Rattle.book.specs.Model.{Model, Node, node_of, level_of, place_count, place_of}
 use Rattle.book.specs.declared.place.Entry.{Entry}
-use Rattle.book.specs.declared.place.Place.TheVariants.{Filled, Spoilt}
 use Rattle.geometry.specs.declared.bounds.Bounds.{Bounds}
 use Rattle.book_check.specs.Accepted.{Stands}
 use Rattle.book_check.proofs.Naming.{place_there}
@@ -22,7 +21,7 @@ full_above xs full q h =
     let r = smallest_some (group xs q) 0 b.0 (omega (arith, group_length xs q)) (group_at xs q 0 None (omega arith) ∙ b.1) in
     (r.0, above_at xs q ∙ r.1)
 
-place_parts : (a : ℕ) (o : Option Bounds) (e : Entry) → place_for a o ≡ Filled e → (e.target ≡ a) × (o ≡ Some e.bounds)
+place_parts : (a : ℕ) (o : Option Bounds) (e : Entry) → place_for a o ≡ Some e → (e.target ≡ a) × (o ≡ Some e.bounds)
 place_parts a (Some b) e h = (cc, cc)
 place_parts a None e h = never h
 
@@ -41,7 +40,7 @@ module _ (m : Model) (n v t k : ℕ) (xs : List (Option Bounds)) (here : node_of
   row_count = ap (λ (x : Node). length x.places) here ∙ group_length (named t xs) k ∙ ap (λ z. min 16 (z - 16 * k)) (named_length t xs)
 
   row_place : (i : ℕ) → i < 16 → place_of m n i ≡ place_for (t + (16 * k + i)) (get_or xs (16 * k + i) None)
-  row_place i h = ap (λ (x : Node). get_or x.places i Spoilt) here ∙ group_at (named t xs) k i Spoilt h ∙ named_at t xs (16 * k + i)
+  row_place i h = ap (λ (x : Node). get_or x.places i None) here ∙ group_at (named t xs) k i None h ∙ named_at t xs (16 * k + i)
 
   pub row_sits : (i : ℕ) (e : Entry) → Stands m n i e → Sits t k i xs e
   row_sits i e s =

@@ -1,11 +1,10 @@
 -- A tree by sixteens over boxes that are all there is accepted.
-use Rattle.std.proofs.Common.{◌≡◌, ℕ, zero, suc, ◌+◌, ◌-◌, ◌*◌, ◌/◌, ◌%◌, ◌<◌, ◌≤◌, Bool, true, cond, ltb, leb, List, length, get_or, Option, sym, refl, ap, ◌∙◌, subst, ⊎_elim, arith}
+use Rattle.std.proofs.Common.{◌≡◌, ℕ, zero, suc, ◌+◌, ◌-◌, ◌*◌, ◌/◌, ◌%◌, ◌<◌, ◌≤◌, Bool, true, cond, ltb, leb, List, length, get_or, Option, sym, refl, ap, ◌∙◌, subst, ⊎_elim, arith, None}
 use Rattle.std.proofs.lemmas.List.{get_or_past}
 use Rattle.std.proofs.lemmas.Bool.{cond-true, cond-false, cond_both, lt-ltb, le-ltb, le-leb, lt-leb, cases_lt}
 use Rattle.book.specs.Model.{Model, Node, no_node, node_of, node_count, pick_limit, place_count}
 use Rattle.book.specs.declared.kind.Kind.{Kind}
 use Rattle.book.specs.declared.place.Entry.{Entry}
-use Rattle.book.specs.declared.place.Place.TheVariants.{Spoilt}
 use Rattle.geometry.specs.declared.bounds.Bounds.{Bounds}
 use Rattle.book_check.specs.Below.{count_below}
 use Rattle.book_check.specs.Names.{is_named, picks_named}
@@ -115,7 +114,7 @@ module _ (bs : List (Option Bounds)) (ks : List Kind) (some : 0 < length bs) (mo
       ∙ ap (λ z. node_with 2 (group (named leaves (above (above bs))) z)) e
 
   past_none : {P : Type 0} (n i : ℕ) (e : Entry) → node_count m ≤ n → Stands m n i e → P
-  past_none n i e h s = never (sym (ap (λ (x : Node). get_or x.places i Spoilt) (get_or_past (by_sixteens bs) n no_node h)) ∙ s)
+  past_none n i e h s = never (sym (ap (λ (x : Node). get_or x.places i None) (get_or_past (by_sixteens bs) n no_node h)) ∙ s)
 
   -- a leaf, a node above the leaves, the one above those, or nowhere
   by_row : (P : ℕ → Type 0) → ((n : ℕ) → n < leaves → P n) → (16 < picks → (k : ℕ) → k < middles → P (leaves + k)) → (16 < leaves → P (leaves + middles)) → ((n : ℕ) → node_count m ≤ n → P n) → (n : ℕ) → P n

@@ -1,6 +1,7 @@
 -- The numbers of the kinds.
-use Rattle.std.specs.Prelude.{ℕ, cond, List, Some, None, codes, Option, ◌==◌}
+use Rattle.std.specs.Prelude.{ℕ, cond, List, Some, None, codes, Option, Result, ok_or, ◌==◌}
 use Rattle.book.specs.declared.kind.Kind.{Kind}
+use Rattle.book.specs.declared.kind.UnknownKind.{UnknownKind}
 use Rattle.book.specs.declared.kind.Kind.TheVariants.{CasingTop, Collar, Perforation, Marker, FluidLevel}
 
 abbrev pub number_of : Kind → ℕ
@@ -18,6 +19,10 @@ kind_with n =
     (cond (n == 3) (Some Perforation)
     (cond (n == 4) (Some Marker)
     (cond (n == 5) (Some FluidLevel) None))))
+
+-- that kind, or the number that no kind has
+abbrev pub kind_numbered : ℕ → Result Kind UnknownKind
+kind_numbered n = ok_or (kind_with n) (record { 0 = n })
 
 abbrev pub words : Kind → List ℕ
 words CasingTop = codes "casing top"

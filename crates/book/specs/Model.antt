@@ -1,13 +1,12 @@
 -- A book as a value, and the questions as definitions over it.
 use Rattle.std.specs.Prelude.{ℕ, ◌<◌, ◌≤◌, List, [], ◌∷◌, map, length, Some, None, Option, slice_index_or}
 use Rattle.book.specs.declared.kind.Kind.{Kind}
-use Rattle.book.specs.declared.place.Place.{Place}
-use Rattle.book.specs.declared.place.Place.TheVariants.{Filled, Spoilt}
+use Rattle.book.specs.declared.place.Entry.{Entry}
 
 -- level 0 is a leaf, whose places name picks; above that they name nodes
 pub record Node : Type 0 where
   pub level : ℕ
-  pub places : List Place
+  pub places : List (Option Entry)
 
 -- the nodes, of which the last is the root, and the kind of each pick
 pub record Model : Type 0 where
@@ -30,22 +29,22 @@ node_of m n = slice_index_or m.nodes n no_node
 abbrev pub level_of : Model → ℕ → ℕ
 level_of m n = (node_of m n).level
 
-abbrev pub places_of : Model → ℕ → List Place
+abbrev pub places_of : Model → ℕ → List (Option Entry)
 places_of m n = (node_of m n).places
 
 abbrev pub place_count : Model → ℕ → ℕ
 place_count m n = length (places_of m n)
 
-abbrev pub place_of : Model → ℕ → ℕ → Place
-place_of m n i = slice_index_or (places_of m n) i Spoilt
+abbrev pub place_of : Model → ℕ → ℕ → Option Entry
+place_of m n i = slice_index_or (places_of m n) i None
 
 abbrev pub kind_of : Model → ℕ → Option Kind
 kind_of m p = slice_index_or (map Some m.kinds) p None
 
 -- a target is a number of 16 bits
-abbrev target_fits : Place → Type 0
-target_fits (Filled e) = e.target < 65536
-target_fits Spoilt = Unit {0}
+abbrev target_fits : Option Entry → Type 0
+target_fits (Some e) = e.target < 65536
+target_fits None = Unit {0}
 
 -- what every book keeps, broken ones too
 pub record BookShape (m : Model) : Type 0 where

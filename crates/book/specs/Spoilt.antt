@@ -1,14 +1,13 @@
 -- The first spoilt place, lowest node first, then lowest place.
 use Rattle.std.specs.Prelude.{ℕ, ◌+◌, List, [], ◌∷◌, Some, None, Option}
 use Rattle.book.specs.Model.{Node, Model}
-use Rattle.book.specs.declared.place.Place.{Place}
-use Rattle.book.specs.declared.place.Place.TheVariants.{Filled, Spoilt}
+use Rattle.book.specs.declared.place.Entry.{Entry}
 
 -- the first spoilt one of the places n has from i on, or else `later`
-abbrev pub spoilt_place : ℕ → ℕ → List Place → Option (ℕ × ℕ) → Option (ℕ × ℕ)
+abbrev pub spoilt_place : ℕ → ℕ → List (Option Entry) → Option (ℕ × ℕ) → Option (ℕ × ℕ)
 spoilt_place n i [] later = later
-spoilt_place n i (Filled e ∷ ps) later = spoilt_place n (i + 1) ps later
-spoilt_place n i (Spoilt ∷ ps) later = Some (n, i)
+spoilt_place n i (Some e ∷ ps) later = spoilt_place n (i + 1) ps later
+spoilt_place n i (None ∷ ps) later = Some (n, i)
 
 -- the first spoilt place of the nodes from n on
 abbrev pub spoilt_node : ℕ → List Node → Option (ℕ × ℕ)

@@ -1,13 +1,12 @@
 -- The check at work on small books, one for each fault.
-use Rattle.std.proofs.Common.{◌≡◌, ℕ, List, [], ◌∷◌, map, replicate, pos, Ok, Err, Result, refl}
+use Rattle.std.proofs.Common.{◌≡◌, ℕ, List, [], ◌∷◌, map, replicate, pos, Ok, Err, Result, refl, Some, None, Option}
 use Rattle.refusal.specs.Told.{Told, plain, at_node, at_place}
 use Rattle.geometry.specs.Contains.{contains}
 use Rattle.geometry.specs.declared.bounds.Span.{Span}
 use Rattle.geometry.specs.declared.bounds.Bounds.{Bounds}
 use Rattle.book.specs.Model.{Model, Node, empty_book}
 use Rattle.book.specs.declared.kind.Kind.TheVariants.{Marker}
-use Rattle.book.specs.declared.place.Place.{Place}
-use Rattle.book.specs.declared.place.Place.TheVariants.{Filled, Spoilt}
+use Rattle.book.specs.declared.place.Entry.{Entry}
 use Rattle.book_check.specs.Below.{count_below}
 use Rattle.book_check.specs.Totals.{total_places}
 use Rattle.book_check.specs.Names.{names, named_before, is_named, picks_named}
@@ -27,10 +26,10 @@ small = span (record { low = pos 2; high = pos 3; least = record { le = tt }; or
 abbrev long : Bounds
 long = span (record { low = pos 5; high = pos 20; least = record { le = tt }; ordered = record { le = tt }; most = record { le = tt } })
 
-abbrev entry : Bounds → ℕ → Place
-entry b t = Filled (record { bounds = b; target = t })
+abbrev entry : Bounds → ℕ → Option Entry
+entry b t = Some (record { bounds = b; target = t })
 
-abbrev node : ℕ → List Place → Node
+abbrev node : ℕ → List (Option Entry) → Node
 node v ps = record { level = v; places = ps }
 
 -- a book of these nodes, with four picks
@@ -62,17 +61,17 @@ four_picks =
 -- ---- refused
 
 abbrev crowded : Model
-crowded = book (replicate 129 (node 0 (replicate 16 Spoilt)))
+crowded = book (replicate 129 (node 0 (replicate 16 None)))
 
 abbrev barren : Model
 barren = book (node 0 [] ∷ node 1 (entry wide 0 ∷ []) ∷ [])
 
 -- 13 stands at a node before its places, and after the nodes before it
 abbrev spoilt_before_barren : Model
-spoilt_before_barren = book (node 0 (Spoilt ∷ []) ∷ node 0 [] ∷ node 1 (entry wide 0 ∷ []) ∷ [])
+spoilt_before_barren = book (node 0 (None ∷ []) ∷ node 0 [] ∷ node 1 (entry wide 0 ∷ []) ∷ [])
 
 abbrev spoilt : Model
-spoilt = book (node 0 (entry small 0 ∷ Spoilt ∷ []) ∷ [])
+spoilt = book (node 0 (entry small 0 ∷ None ∷ []) ∷ [])
 
 abbrev no_such_pick : Model
 no_such_pick = book (node 0 (entry small 4 ∷ []) ∷ [])
@@ -98,11 +97,11 @@ low_end_outside = book (node 0 (entry small 0 ∷ []) ∷ node 1 (entry long 0 �
 
 -- the parent has the lower number: its 17 comes before the child's own 14
 abbrev outside_first : Model
-outside_first = book (node 1 (entry small 1 ∷ []) ∷ node 0 (Spoilt ∷ entry wide 0 ∷ []) ∷ node 2 (entry wide 0 ∷ []) ∷ [])
+outside_first = book (node 1 (entry small 1 ∷ []) ∷ node 0 (None ∷ entry wide 0 ∷ []) ∷ node 2 (entry wide 0 ∷ []) ∷ [])
 
 -- the child's spoilt place is passed over by 17
 abbrev spoilt_child : Model
-spoilt_child = book (node 1 (entry small 1 ∷ []) ∷ node 0 (Spoilt ∷ entry small 0 ∷ []) ∷ node 2 (entry wide 0 ∷ []) ∷ [])
+spoilt_child = book (node 1 (entry small 1 ∷ []) ∷ node 0 (None ∷ entry small 0 ∷ []) ∷ node 2 (entry wide 0 ∷ []) ∷ [])
 
 -- named twice, and the second box is too small: 17 stands before 18
 abbrev twice_too_small : Model

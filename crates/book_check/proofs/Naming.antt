@@ -1,11 +1,9 @@
 -- Which place names what: the tests and what they say.
-use Rattle.std.proofs.Common.{◌≡◌, ℕ, ◌+◌, ◌<◌, Bool, true, false, ◌||◌, ◌⊎◌, length, sym, refl, ap, ◌∙◌, inl, inr, ⊎_elim, add-one, arith}
+use Rattle.std.proofs.Common.{◌≡◌, ℕ, ◌+◌, ◌<◌, Bool, true, false, ◌||◌, ◌⊎◌, length, sym, refl, ap, ◌∙◌, inl, inr, ⊎_elim, add-one, arith, Some, None, Option}
 use Rattle.std.proofs.lemmas.List.{get_or_past}
 use Rattle.std.proofs.lemmas.Bool.{false≢true, cases_lt, eqb-true, eq-eqb, or_cases, or_left, or_right}
 use Rattle.book.specs.Model.{Model, node_count, place_count, place_of, places_of, no_node}
 use Rattle.book.specs.declared.place.Entry.{Entry}
-use Rattle.book.specs.declared.place.Place.{Place}
-use Rattle.book.specs.declared.place.Place.TheVariants.{Filled, Spoilt}
 use Rattle.book_check.specs.Targets.{target_of, same}
 use Rattle.book_check.specs.Names.{names_in, names, named_within, named_below, named_before, is_named}
 use Rattle.book_check.specs.Accepted.{Stands, Names}
@@ -27,7 +25,7 @@ is_same (Child k) = eq-eqb k k refl
 
 pub place_there : (m : Model) (n i : ℕ) (e : Entry) → Stands m n i e → i < place_count m n
 place_there m n i e h =
-    ⊎_elim (λ l. l) (λ l. let z : ◌≡◌ {A = ℕ} 0 1 = cc (get_or_past (places_of m n) i Spoilt l) in absurd (omega arith)) (cases_lt i (place_count m n))
+    ⊎_elim (λ l. l) (λ l. let z : ◌≡◌ {A = ℕ} 0 1 = cc (get_or_past (places_of m n) i None l) in absurd (omega arith)) (cases_lt i (place_count m n))
 
 pub node_there : (m : Model) (n i : ℕ) → i < place_count m n → n < node_count m
 node_there m n i h =
@@ -35,9 +33,9 @@ node_there m n i h =
 
 -- ---- a place names t
 
-in_names : (m : Model) (n i : ℕ) (t : Target) (p : Place) → place_of m n i ≡ p → names_in m n p t ≡ true → Names m n i t
-in_names m n i t Spoilt e h = absurd (false≢true h)
-in_names m n i t (Filled f) e h = (f, e, sym (same_is t (target_of m n f) h))
+in_names : (m : Model) (n i : ℕ) (t : Target) (p : Option Entry) → place_of m n i ≡ p → names_in m n p t ≡ true → Names m n i t
+in_names m n i t None e h = absurd (false≢true h)
+in_names m n i t (Some f) e h = (f, e, sym (same_is t (target_of m n f) h))
 
 pub names_says : (m : Model) (n i : ℕ) (t : Target) → names m n i t ≡ true → Names m n i t
 unfolding names

@@ -1,5 +1,5 @@
 -- An accepted book is a tree.
-use Rattle.std.proofs.Common.{◌≡◌, ℕ, ◌+◌, ◌<◌, ◌≤◌, Bool, true, false, cond, eqb, ◌⊎◌, List, [], ◌∷◌, Ok, sum_by, count_by, Result, sym, refl, ap, ◌∙◌, subst, inl, inr, ⊎_elim, arith}
+use Rattle.std.proofs.Common.{◌≡◌, ℕ, ◌+◌, ◌<◌, ◌≤◌, Bool, true, false, cond, eqb, ◌⊎◌, List, [], ◌∷◌, Ok, sum_by, count_by, Result, sym, refl, ap, ◌∙◌, subst, inl, inr, ⊎_elim, arith, Some, None, Option}
 use Rattle.std.specs.List.{flat_map, AllByRecursion as All}
 use Rattle.std.proofs.lemmas.Bool.{false≢true, eqb-true, eq-eqb, ne_eqb, cases_eq, cases_lt}
 use Rattle.std.proofs.ByRecursion.{All-from_get_or}
@@ -8,8 +8,6 @@ use Rattle.refusal.specs.Told.{answered, tree_told}
 use Rattle.refusal.specs.declared.hands.TreeFault.{TreeFault}
 use Rattle.book.specs.Model.{Model, Node, no_node, node_of, node_count, level_of, places_of, place_of}
 use Rattle.book.specs.declared.place.Entry.{Entry}
-use Rattle.book.specs.declared.place.Place.{Place}
-use Rattle.book.specs.declared.place.Place.TheVariants.{Filled, Spoilt}
 use Rattle.book_check.specs.Targets.{target_of, root_of}
 use Rattle.book_check.specs.Accepted.{Stands, Names, Accepted}
 use Rattle.book_check.specs.Checked.{checked}
@@ -31,21 +29,21 @@ names_child m n e h = ap (λ b. cond b (Pick e.target) (Child e.target)) (ne_eqb
 -- ---- how often a number is named, place by place
 
 -- whether the place holds an entry with the target k
-abbrev hits : ℕ → Place → Bool
-hits k Spoilt = false
-hits k (Filled e) = eqb e.target k
+abbrev hits : ℕ → Option Entry → Bool
+hits k None = false
+hits k (Some e) = eqb e.target k
 
-hit_found : (k : ℕ) (p : Place) → hits k p ≡ true → (e : Entry) × (p ≡ Filled e) × (e.target ≡ k)
-hit_found k Spoilt h = absurd (false≢true h)
-hit_found k (Filled e) h = (e, refl, eqb-true e.target k h)
+hit_found : (k : ℕ) (p : Option Entry) → hits k p ≡ true → (e : Entry) × (p ≡ Some e) × (e.target ≡ k)
+hit_found k None h = absurd (false≢true h)
+hit_found k (Some e) h = (e, refl, eqb-true e.target k h)
 
-times_places : (k : ℕ) (ps : List Place) → times k (targets_in ps) ≡ count_by (hits k) ps
+times_places : (k : ℕ) (ps : List (Option Entry)) → times k (targets_in ps) ≡ count_by (hits k) ps
 times_places k [] = refl
-times_places k (Spoilt ∷ ps) = times_places k ps ∙ sym (sum_by-cons (λ p. cond (hits k p) 1 0) Spoilt ps ∙ omega arith)
-times_places k (Filled e ∷ ps) =
+times_places k (None ∷ ps) = times_places k ps ∙ sym (sum_by-cons (λ p. cond (hits k p) 1 0) None ps ∙ omega arith)
+times_places k (Some e ∷ ps) =
     sum_by-cons (λ x. cond (eqb x k) 1 0) e.target (targets_in ps)
     ∙ ap (λ s. cond (eqb e.target k) 1 0 + s) (times_places k ps)
-    ∙ sym (sum_by-cons (λ p. cond (hits k p) 1 0) (Filled e) ps)
+    ∙ sym (sum_by-cons (λ p. cond (hits k p) 1 0) (Some e) ps)
 
 -- the numbers that a node names as picks, or as children
 abbrev numbers_in : Bool → Node → List ℕ
@@ -102,7 +100,7 @@ module _ (m : Model) (leaf : Bool) (k : ℕ) where
   node_found n h =
       ⊎_elim
       (λ a.
-      let r = sum_found (λ p. cond (hits k p) 1 0) Spoilt (places_of m n) (omega (arith, of_class n a)) in
+      let r = sum_found (λ p. cond (hits k p) 1 0) None (places_of m n) (omega (arith, of_class n a)) in
       (r.0, hit_names n r.0 a (counted (hits k (place_of m n r.0)) r.2)))
       (λ a. absurd (omega (arith, not_of_class n a)))
       (agree (eqb (level_of m n) 0) leaf)
@@ -114,7 +112,7 @@ module _ (m : Model) (leaf : Bool) (k : ℕ) where
         arith,
         of_class n r.0,
         counts (hits k (place_of m n i)) r.1,
-        get_or-le-sum_by (λ p. cond (hits k p) 1 0) (places_of m n) i Spoilt (place_there m n i h.0 h.1),
+        get_or-le-sum_by (λ p. cond (hits k p) 1 0) (places_of m n) i None (place_there m n i h.0 h.1),
       )
 
   abbrev all_often : ℕ
@@ -154,7 +152,7 @@ module _ (m : Model) (leaf : Bool) (k : ℕ) where
           omega (
             arith,
             of_class n a,
-            sum_single (λ p. cond (hits k p) 1 0) Spoilt (places_of m n) (λ i l. count_one (hits k (place_of m n i)))
+            sum_single (λ p. cond (hits k p) 1 0) None (places_of m n) (λ i l. count_one (hits k (place_of m n i)))
                 (λ i j _ _ p q. (only n i n j (hit_names n i a (counted (hits k (place_of m n i)) p)) (hit_names n j a (counted (hits k (place_of m n j)) q))).1),
           ))
           (λ a. omega (arith, not_of_class n a))
@@ -198,9 +196,9 @@ module _ (m : Model) (acc : Accepted m) where
   one_lower n i e s h = (child_at m acc n i e.target e s (names_child m n e h)).1
 
 -- what holds of every entry holds of every place of a tree
-pub all_places_lem : (m : Model) → Tree m → (n : ℕ) (P : Place → Type 0) → ((i : ℕ) (e : Entry) → Stands m n i e → P (Filled e)) → All P (places_of m n)
+pub all_places_lem : (m : Model) → Tree m → (n : ℕ) (P : Option Entry → Type 0) → ((i : ℕ) (e : Entry) → Stands m n i e → P (Some e)) → All P (places_of m n)
 all_places_lem m tree n P h =
-    All-from_get_or P (places_of m n) Spoilt (λ i l. let r = tree.filled n i l in subst P (sym r.1) (h i r.0 r.1))
+    All-from_get_or P (places_of m n) None (λ i l. let r = tree.filled n i l in subst P (sym r.1) (h i r.0 r.1))
 
 pub answer_tree : (m : Model) (r : Result ℕ TreeFault) → answered tree_told r ≡ checked m → (k : ℕ) → r ≡ Ok k → Tree m
 answer_tree m r e k h = accepted_tree m ((answer_exactly m r e k).0 h).0

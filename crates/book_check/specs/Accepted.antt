@@ -1,9 +1,8 @@
 -- What it means that a book is accepted.
-use Rattle.std.specs.Prelude.{◌≡◌, ℕ, ◌+◌, ◌<◌, ◌≤◌}
+use Rattle.std.specs.Prelude.{◌≡◌, ℕ, ◌+◌, ◌<◌, ◌≤◌, Some}
 use Rattle.geometry.specs.Within.{Within}
 use Rattle.book.specs.Model.{Model, pick_limit, level_of, place_count, place_of}
 use Rattle.book.specs.declared.place.Entry.{Entry}
-use Rattle.book.specs.declared.place.Place.TheVariants.{Filled}
 use Rattle.book_check.specs.Targets.{target_of, root_of}
 use Rattle.book_check.specs.Totals.{total_places}
 use Rattle.book_check.specs.declared.target.Target.{Target}
@@ -11,7 +10,7 @@ use Rattle.book_check.specs.declared.target.Target.TheVariants.{Pick, Child}
 
 -- the entry e stands at place i of node n
 abbrev pub Stands : Model → ℕ → ℕ → Entry → Type 0
-Stands m n i e = place_of m n i ≡ Filled e
+Stands m n i e = place_of m n i ≡ Some e
 
 -- place i of node n names t
 abbrev pub Names : Model → ℕ → ℕ → Target → Type 0

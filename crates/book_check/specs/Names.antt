@@ -1,16 +1,15 @@
 -- Which targets the places of a book name.
-use Rattle.std.specs.Prelude.{ℕ, Bool, false, ◌||◌}
+use Rattle.std.specs.Prelude.{ℕ, Bool, false, ◌||◌, Some, None, Option}
 use Rattle.book.specs.Model.{Model, node_count, pick_limit, place_count, place_of}
-use Rattle.book.specs.declared.place.Place.{Place}
-use Rattle.book.specs.declared.place.Place.TheVariants.{Filled, Spoilt}
+use Rattle.book.specs.declared.place.Entry.{Entry}
 use Rattle.book_check.specs.Below.{some_below, count_below}
 use Rattle.book_check.specs.Targets.{target_of, same}
 use Rattle.book_check.specs.declared.target.Target.{Target}
 use Rattle.book_check.specs.declared.target.Target.TheVariants.{Pick}
 
-abbrev pub names_in : Model → ℕ → Place → Target → Bool
-names_in m n Spoilt t = false
-names_in m n (Filled e) t = same t (target_of m n e)
+abbrev pub names_in : Model → ℕ → Option Entry → Target → Bool
+names_in m n None t = false
+names_in m n (Some e) t = same t (target_of m n e)
 
 -- whether place i of node n names t
 unfoldable pub names : Model → ℕ → ℕ → Target → Bool

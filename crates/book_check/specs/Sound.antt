@@ -4,8 +4,7 @@ use Rattle.refusal.specs.Told.{Told, at_place}
 use Rattle.geometry.specs.Contains.{contains}
 use Rattle.geometry.specs.declared.bounds.Bounds.{Bounds}
 use Rattle.book.specs.Model.{Model, level_of, place_count, place_of}
-use Rattle.book.specs.declared.place.Place.{Place}
-use Rattle.book.specs.declared.place.Place.TheVariants.{Filled, Spoilt}
+use Rattle.book.specs.declared.place.Entry.{Entry}
 use Rattle.book_check.specs.Below.{first_of, some_below}
 use Rattle.book_check.specs.Targets.{target_of, in_book}
 use Rattle.book_check.specs.declared.target.Target.{Target}
@@ -26,9 +25,9 @@ one_lower m n (Pick p) = true
 one_lower m n (Child k) = level_of m k + 1 == level_of m n
 
 -- a place whose entry lies outside the box
-abbrev pub outside : Bounds → Place → Bool
-outside b Spoilt = false
-outside b (Filled e) = not (contains b e.bounds)
+abbrev pub outside : Bounds → Option Entry → Bool
+outside b None = false
+outside b (Some e) = not (contains b e.bounds)
 
 -- whether an entry of node k lies outside the box; spoilt places are passed over
 unfoldable pub sticks_out : Model → Bounds → ℕ → Bool
@@ -49,9 +48,9 @@ entry_fault m n i b t =
     ∷ [])
 
 -- place i of node n holds this
-abbrev pub sound_in : Model → ℕ → ℕ → Place → Result Target Told
-sound_in m n i Spoilt = Err (at_place 14 n i)
-sound_in m n i (Filled e) = unless (entry_fault m n i e.bounds (target_of m n e)) (target_of m n e)
+abbrev pub sound_in : Model → ℕ → ℕ → Option Entry → Result Target Told
+sound_in m n i None = Err (at_place 14 n i)
+sound_in m n i (Some e) = unless (entry_fault m n i e.bounds (target_of m n e)) (target_of m n e)
 
 -- the target of place i of node n, or the first of 14 to 17
 unfoldable pub sound_target : Model → ℕ → ℕ → Result Target Told

@@ -1,20 +1,18 @@
 -- What browsing uses of an accepted book. A child need only be lower than its parent.
-use Rattle.std.specs.Prelude.{◌≡◌, ℕ, ◌<◌, ◌≤◌, cond, List, [], ◌∷◌, count_by, ◌==◌, nat_eq}
+use Rattle.std.specs.Prelude.{◌≡◌, ℕ, ◌<◌, ◌≤◌, cond, List, [], ◌∷◌, count_by, ◌==◌, nat_eq, Some, None, Option}
 use Rattle.std.specs.List.{flat_map}
 use Rattle.geometry.specs.Within.{Within}
 use Rattle.book.specs.Model.{Model, Node, node_count, pick_limit, level_of, place_count}
 use Rattle.book.specs.declared.place.Entry.{Entry}
-use Rattle.book.specs.declared.place.Place.{Place}
-use Rattle.book.specs.declared.place.Place.TheVariants.{Filled, Spoilt}
 use Rattle.book_check.specs.Targets.{root_of}
 use Rattle.book_check.specs.Totals.{total_places}
 use Rattle.book_check.specs.Accepted.{Stands}
 
 -- the targets of the entries, spoilt places passed over
-abbrev pub targets_in : List Place → List ℕ
+abbrev pub targets_in : List (Option Entry) → List ℕ
 targets_in [] = []
-targets_in (Spoilt ∷ ps) = targets_in ps
-targets_in (Filled e ∷ ps) = e.target ∷ targets_in ps
+targets_in (None ∷ ps) = targets_in ps
+targets_in (Some e ∷ ps) = e.target ∷ targets_in ps
 
 -- the picks that a node names, and the children
 abbrev pub picks_in : Node → List ℕ

@@ -6,7 +6,6 @@ ghost use Rattle.book_check.specs.Sound.{one_lower, sticks_out, leaves_box, soun
 
 use crate::target::{Target, in_book, target_at};
 use book::book::Book;
-use book::place::Place;
 use geometry::bounds::Bounds;
 use refusal::hands::TreeFault;
 
@@ -26,7 +25,7 @@ fn sticks_out<B: Book>(book: &B, bounds: &Bounds, node: u16) -> bool
     ensures { result ≡ sticks_out (B.Book.model book.now) bounds.now node }
 {
     for index in 0..book.place_count(node) {
-        if let Place::Filled(entry) = book.place(node, index) {
+        if let Some(entry) = book.place(node, index) {
             if !bounds.contains(&entry.bounds) {
                 return true;
             }
@@ -48,7 +47,7 @@ fn leaves_box<B: Book>(book: &B, bounds: &Bounds, target: Target) -> bool
 pub(crate) fn sound_target<B: Book>(book: &B, node: u16, place: u8) -> Result<Target, TreeFault>
     ensures { answered tree_told result ≡ sound_target (B.Book.model book.now) node place }
 {
-    let Place::Filled(entry) = book.place(node, place) else {
+    let Some(entry) = book.place(node, place) else {
         return Err(TreeFault::Spoilt { node, place });
     };
     let target = target_at(book.level(node), entry.target);

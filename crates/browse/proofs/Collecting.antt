@@ -1,9 +1,8 @@
 -- The kids of a node, collected place after place.
-use Rattle.std.proofs.Common.{◌≡◌, ℕ, ◌+◌, ◌<◌, ◌≤◌, true, false, ◌&&◌, List, [], ◌∷◌, ◌++◌, length, get_or, drop, Some, None, sym, refl, ap, ◌∙◌, add-one, drop-cons}
+use Rattle.std.proofs.Common.{◌≡◌, ℕ, ◌+◌, ◌<◌, ◌≤◌, true, false, ◌&&◌, List, [], ◌∷◌, ◌++◌, length, get_or, drop, Some, None, sym, refl, ap, ◌∙◌, add-one, drop-cons, Option}
 use Rattle.std.proofs.lemmas.List.{append-nil, append_assoc, length_push, drop_all}
 use Rattle.book.specs.Model.{Model}
-use Rattle.book.specs.declared.place.Place.{Place}
-use Rattle.book.specs.declared.place.Place.TheVariants.{Filled, Spoilt}
+use Rattle.book.specs.declared.place.Entry.{Entry}
 use Rattle.browse.specs.Thing.{Thing}
 use Rattle.browse.specs.Tree.{Far, class_at, thing, things}
 use Rattle.browse.specs.Broken.{sound_place, sound_places}
@@ -11,39 +10,39 @@ use Rattle.browse.specs.Opening.{only_if, sound_kid, sound_kids}
 use Rattle.browse.proofs.Opens.{some_or_none, only_if_not, only_if_lem}
 
 module _ (m : Model) (far : Far) (level d : ℕ) where
-  unsound : (p : Place) → sound_kid m far level d p ≡ None → sound_place m far level d p ≡ false
-  unsound Spoilt e = refl
-  unsound (Filled entry) e = only_if_not (sound_place m far level d (Filled entry)) (thing far (class_at level) entry) e
+  unsound : (p : Option Entry) → sound_kid m far level d p ≡ None → sound_place m far level d p ≡ false
+  unsound None e = refl
+  unsound (Some entry) e = only_if_not (sound_place m far level d (Some entry)) (thing far (class_at level) entry) e
 
-  sound : (p : Place) (ps : List Place) (x : Thing) → sound_kid m far level d p ≡ Some x →
+  sound : (p : Option Entry) (ps : List (Option Entry)) (x : Thing) → sound_kid m far level d p ≡ Some x →
       (sound_place m far level d p ≡ true) × (things far (class_at level) (p ∷ ps) ≡ x ∷ things far (class_at level) ps)
-  sound Spoilt ps x e = absurd (some_or_none x (sym e))
-  sound (Filled entry) ps x e =
-      let k = only_if_lem (sound_place m far level d (Filled entry)) (thing far (class_at level) entry) x e in
+  sound None ps x e = absurd (some_or_none x (sym e))
+  sound (Some entry) ps x e =
+      let k = only_if_lem (sound_place m far level d (Some entry)) (thing far (class_at level) entry) x e in
       (k.0, ap (λ y. y ∷ things far (class_at level) ps) k.1)
 
-  module _ (ps : List Place) where
+  module _ (ps : List (Option Entry)) where
     -- The first i places are sound and name the kids held.
     abbrev pub Collecting : List Thing → ℕ → Type 0
     Collecting held i =
         (only_if (sound_places m far level d (drop i ps)) (held ++ things far (class_at level) (drop i ps)) ≡ sound_kids m far level d ps)
         × (length held ≡ i)
 
-    here : (i : ℕ) → i < length ps → drop i ps ≡ get_or ps i Spoilt ∷ drop (i + 1) ps
-    here i h = drop-cons ps i Spoilt h ∙ ap (λ n. get_or ps i Spoilt ∷ drop n ps) (sym (add-one i))
+    here : (i : ℕ) → i < length ps → drop i ps ≡ get_or ps i None ∷ drop (i + 1) ps
+    here i h = drop-cons ps i None h ∙ ap (λ n. get_or ps i None ∷ drop n ps) (sym (add-one i))
 
     module _ (held : List Thing) (i : ℕ) (inv : Collecting held i) where
-      pub collect_stops : i < length ps → sound_kid m far level d (get_or ps i Spoilt) ≡ None → None ≡ sound_kids m far level d ps
+      pub collect_stops : i < length ps → sound_kid m far level d (get_or ps i None) ≡ None → None ≡ sound_kids m far level d ps
       collect_stops h e =
-          let p = get_or ps i Spoilt in
+          let p = get_or ps i None in
           let qs = drop (i + 1) ps in
           sym (ap (λ b. only_if (b && sound_places m far level d qs) (held ++ things far (class_at level) (p ∷ qs))) (unsound p e))
           ∙ ap (λ l. only_if (sound_places m far level d l) (held ++ things far (class_at level) l)) (sym (here i h))
           ∙ inv.0
 
-      pub collect_on : (x : Thing) (held' : List Thing) → i < length ps → sound_kid m far level d (get_or ps i Spoilt) ≡ Some x → held' ≡ held ++ x ∷ [] → Collecting held' (i + 1)
+      pub collect_on : (x : Thing) (held' : List Thing) → i < length ps → sound_kid m far level d (get_or ps i None) ≡ Some x → held' ≡ held ++ x ∷ [] → Collecting held' (i + 1)
       collect_on x held' h e f =
-          let p = get_or ps i Spoilt in
+          let p = get_or ps i None in
           let qs = drop (i + 1) ps in
           let s = sound p qs x e in
           let g : held' ++ things far (class_at level) qs ≡ held ++ things far (class_at level) (p ∷ qs) =

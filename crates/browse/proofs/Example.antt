@@ -7,8 +7,7 @@ use Rattle.geometry.specs.Distance.{euclidean}
 use Rattle.geometry.specs.declared.bounds.Point.{Point}
 use Rattle.geometry.specs.declared.bounds.Bounds.{Bounds}
 use Rattle.book.specs.declared.kind.Kind.TheVariants.{CasingTop, Perforation, Marker}
-use Rattle.book.specs.declared.place.Place.{Place}
-use Rattle.book.specs.declared.place.Place.TheVariants.{Filled, Spoilt}
+use Rattle.book.specs.declared.place.Entry.{Entry}
 use Rattle.book.specs.Model.{Model, BookShape}
 use Rattle.book_check.specs.Below.{count_below}
 use Rattle.book_check.specs.Totals.{total_places}
@@ -36,11 +35,11 @@ minus (suc n) = negsuc n
 abbrev point : ℕ → ℕ → ℕ → Point
 point e n depth = record { easting = pos e; northing = pos n; level = minus depth }
 
-abbrev or_spoilt : ℕ → Option Bounds → Place
-or_spoilt target (Some b) = Filled (record { bounds = b; target = target })
-or_spoilt target None = Spoilt
+abbrev or_spoilt : ℕ → Option Bounds → Option Entry
+or_spoilt target (Some b) = Some (record { bounds = b; target = target })
+or_spoilt target None = None
 
-abbrev place : ℕ → Point → Point → Place
+abbrev place : ℕ → Point → Point → Option Entry
 place target low high = or_spoilt target (bounds_at low high)
 
 abbrev small : Model

@@ -2,8 +2,7 @@
 use Rattle.std.proofs.Common.{◌≡◌, ℕ, zero, suc, ◌+◌, ◌-◌, ◌<◌, ◌≤◌, Bool, cond, leb, List, [], ◌∷◌, length, Some, None, Ok, Err, Option, sym, refl, ap, ◌∙◌, arith}
 use Rattle.refusal.specs.Told.{at_node}
 use Rattle.book.specs.Model.{Model, node_count, level_of, places_of}
-use Rattle.book.specs.declared.place.Place.{Place}
-use Rattle.book.specs.declared.place.Place.TheVariants.{Filled, Spoilt}
+use Rattle.book.specs.declared.place.Entry.{Entry}
 use Rattle.queue.specs.Heap.{behind}
 use Rattle.search.specs.Answer.{told}
 use Rattle.search.specs.Glances.{Glance, done, on, onward, follow, finish}
@@ -22,10 +21,10 @@ use Rattle.browse.proofs.Opens.{some_or_none, only_if_not, only_if_lem, can_open
 abbrev pub nearest : ℕ → Standing Thing → Option Thing
 nearest limit s = first_within (λ x. x.distance) limit s.waiting
 
-few_things : (far : Far) (c : Class) (ps : List Place) → length (things far c ps) ≤ length ps
+few_things : (far : Far) (c : Class) (ps : List (Option Entry)) → length (things far c ps) ≤ length ps
 few_things far c [] = omega arith
-few_things far c (Spoilt ∷ ps) = omega (arith, few_things far c ps)
-few_things far c (Filled e ∷ ps) = omega (arith, few_things far c ps)
+few_things far c (None ∷ ps) = omega (arith, few_things far c ps)
+few_things far c (Some e ∷ ps) = omega (arith, few_things far c ps)
 
 module _ (m : Model) (far : Far) (limit : ℕ) (s : Standing Thing) where
   done_at_once : (a : Reply) (t : Standing Thing) → glance m far limit s ≡ done a t → next_of m far limit s ≡ (a, t)

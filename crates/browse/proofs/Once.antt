@@ -1,5 +1,5 @@
 -- The walk down from the root of an accepted book meets each node just once. So what it meets is the root and what all entries name.
-use Rattle.std.proofs.Common.{◌≡◌, ℕ, zero, suc, ◌+◌, ◌<◌, ◌≤◌, Bool, true, false, cond, ◌&&◌, eqb, List, [], ◌∷◌, length, sym, refl, ap, ◌∙◌, subst, inl, ⊎_elim, arith}
+use Rattle.std.proofs.Common.{◌≡◌, ℕ, zero, suc, ◌+◌, ◌<◌, ◌≤◌, Bool, true, false, cond, ◌&&◌, eqb, List, [], ◌∷◌, length, sym, refl, ap, ◌∙◌, subst, inl, ⊎_elim, arith, Some, None, Option}
 use Rattle.std.specs.List.{flat_map, AllByRecursion as All}
 use Rattle.std.proofs.lemmas.Bool.{cases_eq, eq-eqb, ne_eqb}
 use Rattle.std.proofs.ByRecursion.{All-weaker, All-from_get_or}
@@ -8,8 +8,6 @@ use Rattle.std.proofs.lemmas.List.Sums.{length-filter}
 use Rattle.book.specs.Model.{Model, BookShape, node_count, level_of, places_of, place_of, no_node}
 use Rattle.book.specs.Model as book
 use Rattle.book.specs.declared.place.Entry.{Entry}
-use Rattle.book.specs.declared.place.Place.{Place}
-use Rattle.book.specs.declared.place.Place.TheVariants.{Filled, Spoilt}
 use Rattle.book_check.specs.declared.target.Target.TheVariants.{Pick as PickTarget, Child}
 use Rattle.book_check.specs.Targets.{target_at, root_of}
 use Rattle.book_check.specs.Totals.{total_places}
@@ -46,7 +44,7 @@ child_target level j k = at (eqb level 0)
 
 module _ (m : Model) (far : Far) (acc : Accepted m) where
   -- whether a place of node k, or an entry of it, names the node n
-  abbrev naming : ℕ → ℕ → Place → ℕ
+  abbrev naming : ℕ → ℕ → Option Entry → ℕ
   naming k n = from far (class_at (level_of m k)) (λ z. one (is_the n z))
 
   names_is : (k n : ℕ) (e : Entry) → (class_at (level_of m k) ≡ Node) × (e.target ≡ n) → one (is_the n (thing far (class_at (level_of m k)) e)) ≡ 1
@@ -57,9 +55,9 @@ module _ (m : Model) (far : Far) (acc : Accepted m) where
       ⊎_elim (λ c. (λ i. one (opens (c i) && ne_eqb e.target n (h c) i)))
       (λ c. (λ i. one (opens (c i) && eqb e.target n))) (two_classes (class_at (level_of m k)))
 
-  place_not : (k n : ℕ) (p : Place) → ((e : Entry) → p ≡ Filled e → class_at (level_of m k) ≡ Node → e.target ≡ n → ⊥) → naming k n p ≡ 0
-  place_not k n Spoilt h = refl
-  place_not k n (Filled e) h = names_not k n e (h e refl)
+  place_not : (k n : ℕ) (p : Option Entry) → ((e : Entry) → p ≡ Some e → class_at (level_of m k) ≡ Node → e.target ≡ n → ⊥) → naming k n p ≡ 0
+  place_not k n None h = refl
+  place_not k n (Some e) h = names_not k n e (h e refl)
 
   module _ (n : ℕ) (l : n < root_of m) where
     abbrev p : Parent m n
@@ -73,7 +71,7 @@ module _ (m : Model) (far : Far) (acc : Accepted m) where
     in_parent =
         let k = p.node in
         let inside = at_within (places_of m k) p.place p.entry p.stands in
-        total_only (naming k n) (places_of m k) Spoilt p.place inside
+        total_only (naming k n) (places_of m k) None p.place inside
         (λ j _ other. place_not k n (place_of m k j) (λ e s c t. other (named_by k j e s c t).1))
         ∙ ap (naming k n) p.stands
         ∙ names_is k n p.entry (child_target (level_of m k) p.entry.target n p.names)
@@ -82,7 +80,7 @@ module _ (m : Model) (far : Far) (acc : Accepted m) where
     in_other : (k : ℕ) → (k ≡ p.node → ⊥) → total (naming k n) (places_of m k) ≡ 0
     in_other k other =
         total_none (naming k n) (places_of m k)
-        (All-from_get_or (λ q. naming k n q ≡ 0) (places_of m k) Spoilt
+        (All-from_get_or (λ q. naming k n q ≡ 0) (places_of m k) None
         (λ j _. place_not k n (place_of m k j) (λ e s c t. other (named_by k j e s c t).0)))
 
     pub named_once : (y : Thing) → total (λ z. one (is_the n z)) (kids_as m far y.class y.number) ≡ one (is_the p.node y)
@@ -107,7 +105,7 @@ module _ (m : Model) (far : Far) (acc : Accepted m) where
       at Node k =
           total_things far (class_at (level_of m k)) (λ z. one (is_the (root_of m) z)) (places_of m k)
           ∙ total_none (naming k (root_of m)) (places_of m k)
-          (All-from_get_or (λ q. naming k (root_of m) q ≡ 0) (places_of m k) Spoilt
+          (All-from_get_or (λ q. naming k (root_of m) q ≡ 0) (places_of m k) None
           (λ j _. place_not k (root_of m) (place_of m k j) (λ e s c t. omega (arith, child_in_book m far acc k j e s c, t))))
 
   module _ (shape : BookShape m) (mono : Monotone far) where

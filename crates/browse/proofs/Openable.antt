@@ -1,10 +1,8 @@
 -- In a search of an accepted book each node that comes first can be opened.
-use Rattle.std.proofs.Common.{◌≡◌, ℕ, suc, ◌+◌, ◌-◌, Bool, true, false, cond, ◌&&◌, eqb, ltb, leb, List, [], ◌∷◌, length, refl, ap, ◌∙◌, arith}
+use Rattle.std.proofs.Common.{◌≡◌, ℕ, suc, ◌+◌, ◌-◌, Bool, true, false, cond, ◌&&◌, eqb, ltb, leb, List, [], ◌∷◌, length, refl, ap, ◌∙◌, arith, Some, None, Option}
 use Rattle.std.proofs.lemmas.Bool.{and_from, lt-ltb, le-leb, eq-eqb}
 use Rattle.book.specs.Model.{Model, BookShape, node_count, pick_limit, level_of, places_of, place_count}
 use Rattle.book.specs.declared.place.Entry.{Entry}
-use Rattle.book.specs.declared.place.Place.{Place}
-use Rattle.book.specs.declared.place.Place.TheVariants.{Filled, Spoilt}
 use Rattle.book_check.specs.Accepted.{Accepted, Stands}
 use Rattle.search.proofs.Room.{Held, stand, held_room}
 use Rattle.browse.specs.declared.waiting.Class.TheVariants.{Node, Pick}
@@ -16,12 +14,12 @@ use Rattle.browse.proofs.Places.{At, Full, spoilt_filled, length_full}
 use Rattle.browse.proofs.Members.{Member, opens_node, full, pick_in_book, child_in_book, child_lower, outward, book_members}
 use Rattle.browse.proofs.Once.{nodes_met, few_met}
 
-all_sound : (m : Model) (far : Far) (level d : ℕ) (ps : List Place) → Full ps → ((j : ℕ) (e : Entry) → At ps j e → sound_place m far level d (Filled e) ≡ true) →
+all_sound : (m : Model) (far : Far) (level d : ℕ) (ps : List (Option Entry)) → Full ps → ((j : ℕ) (e : Entry) → At ps j e → sound_place m far level d (Some e) ≡ true) →
     sound_places m far level d ps ≡ true
 all_sound m far level d [] h k = refl
-all_sound m far level d (Spoilt ∷ ps) h k = let r = h 0 (omega arith) in absurd (spoilt_filled r.0 r.1)
-all_sound m far level d (Filled e ∷ ps) h k =
-    and_from (sound_place m far level d (Filled e)) (sound_places m far level d ps) (k 0 e refl)
+all_sound m far level d (None ∷ ps) h k = let r = h 0 (omega arith) in absurd (spoilt_filled r.0 r.1)
+all_sound m far level d (Some e ∷ ps) h k =
+    and_from (sound_place m far level d (Some e)) (sound_places m far level d ps) (k 0 e refl)
     (all_sound m far level d ps (λ i l. h (suc i) (omega arith)) (λ j e a. k (suc j) e a))
 
 module _ (m : Model) (far : Far) (acc : Accepted m) where

@@ -1,8 +1,7 @@
 -- Which nodes a browse cannot open.
-use Rattle.std.specs.Prelude.{ℕ, ◌+◌, ◌-◌, Bool, true, false, cond, ◌&&◌, List, [], ◌∷◌, length, ◌==◌, nat_le, nat_lt}
+use Rattle.std.specs.Prelude.{ℕ, ◌+◌, ◌-◌, Bool, true, false, cond, ◌&&◌, List, [], ◌∷◌, length, ◌==◌, nat_le, nat_lt, Some, None, Option}
 use Rattle.book.specs.Model.{Model, node_count, pick_limit, level_of, places_of, place_count}
-use Rattle.book.specs.declared.place.Place.{Place}
-use Rattle.book.specs.declared.place.Place.TheVariants.{Filled, Spoilt}
+use Rattle.book.specs.declared.place.Entry.{Entry}
 use Rattle.search.specs.Search.{Standing}
 use Rattle.browse.specs.Thing.{Thing}
 use Rattle.browse.specs.Tree.{Far}
@@ -13,11 +12,11 @@ right_target m level t =
     cond (level == 0) (nat_lt t (pick_limit m)) (nat_lt t (node_count m - 1) && level_of m t + 1 == level)
 
 -- a place of a node of this level at this distance: an entry, no nearer than the node, with a right target
-abbrev pub sound_place : Model → Far → ℕ → ℕ → Place → Bool
-sound_place m far level d Spoilt = false
-sound_place m far level d (Filled e) = nat_le d (far e.bounds) && right_target m level e.target
+abbrev pub sound_place : Model → Far → ℕ → ℕ → Option Entry → Bool
+sound_place m far level d None = false
+sound_place m far level d (Some e) = nat_le d (far e.bounds) && right_target m level e.target
 
-abbrev pub sound_places : Model → Far → ℕ → ℕ → List Place → Bool
+abbrev pub sound_places : Model → Far → ℕ → ℕ → List (Option Entry) → Bool
 sound_places m far level d [] = true
 sound_places m far level d (p ∷ ps) = sound_place m far level d p && sound_places m far level d ps
 

@@ -1,10 +1,8 @@
 -- A book as a tree of things, for a query whose distance from each box is `far`.
-use Rattle.std.specs.Prelude.{ℕ, ◌+◌, ◌-◌, cond, List, [], ◌∷◌, pos, ◌==◌}
+use Rattle.std.specs.Prelude.{ℕ, ◌+◌, ◌-◌, cond, List, [], ◌∷◌, pos, ◌==◌, Some, None, Option}
 use Rattle.geometry.specs.declared.bounds.Bounds.{Bounds}
 use Rattle.book.specs.Model.{Model, node_count, level_of, places_of}
 use Rattle.book.specs.declared.place.Entry.{Entry}
-use Rattle.book.specs.declared.place.Place.{Place}
-use Rattle.book.specs.declared.place.Place.TheVariants.{Filled, Spoilt}
 use Rattle.search.specs.Tree.{Tree}
 use Rattle.browse.specs.declared.waiting.Class.{Class}
 use Rattle.browse.specs.declared.waiting.Class.TheVariants.{Node, Pick}
@@ -22,10 +20,10 @@ abbrev pub thing : Far → Class → Entry → Thing
 thing far c e = record { distance = far e.bounds; class = c; number = e.target; top = e.bounds.level.high }
 
 -- the entries of these places, lower place first
-abbrev pub things : Far → Class → List Place → List Thing
+abbrev pub things : Far → Class → List (Option Entry) → List Thing
 things far c [] = []
-things far c (Spoilt ∷ ps) = things far c ps
-things far c (Filled e ∷ ps) = thing far c e ∷ things far c ps
+things far c (None ∷ ps) = things far c ps
+things far c (Some e ∷ ps) = thing far c e ∷ things far c ps
 
 abbrev pub kids_as : Model → Far → Class → ℕ → List Thing
 kids_as m far Node n = things far (class_at (level_of m n)) (places_of m n)

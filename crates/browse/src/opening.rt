@@ -11,7 +11,7 @@ use crate::desk::Desk;
 use crate::kids::Kids;
 use crate::waiting::{Class, Waiting};
 use book::book::Book;
-use book::place::Place;
+use book::place::Entry;
 use geometry::bounds::Bounds;
 use geometry::measure::Measure;
 
@@ -42,11 +42,11 @@ fn sound_kid<B: Book, M: Measure>(
     query: &Bounds,
     level: u8,
     nearest: u64,
-    place: Place,
+    place: Option<Entry>,
 ) -> Option<Waiting>
     ensures { one_of result ≡ sound_kid (B.Book.model book.now) (M.Measure.distance measure.now query.now) level nearest place }
 {
-    let Place::Filled(entry) = place else {
+    let Some(entry) = place else {
         return None;
     };
     let distance = measure.distance(query, &entry.bounds);

@@ -5,7 +5,6 @@ use crate::extent::{Extent, Field};
 use crate::scan::Scan;
 use anyhow::anyhow;
 use book::book::Book;
-use book::place::Place;
 use book_check::scan::check;
 use browse::answer::{Answer, Found};
 use browse::browse::Browse;
@@ -149,8 +148,8 @@ fn take_singly<B: Book>(
 fn held_box<B: Book>(chance: &mut Chance, field: &Field, book: &B) -> Extent {
     let node = u16::try_from(chance.below(u64::from(book.node_count()))).unwrap_or(0);
     match book.place(node, 0) {
-        Place::Filled(entry) => Extent::of(&entry.bounds),
-        Place::Spoilt => field.draw(chance),
+        Some(entry) => Extent::of(&entry.bounds),
+        None => field.draw(chance),
     }
 }
 

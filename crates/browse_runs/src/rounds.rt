@@ -7,7 +7,6 @@ use crate::filed::drawn_book;
 use crate::shape::Shape;
 use anyhow::anyhow;
 use book::book::Book;
-use book::place::Place;
 use geometry::bounds::{LEAST, MOST};
 use loaded::loaded::Loaded;
 use makes::join::{Join, fits};
@@ -42,7 +41,7 @@ fn extent_of<B: Book>(book: &B) -> Extent {
     };
     for node in 0..book.node_count() {
         for index in 0..book.place_count(node) {
-            if let Place::Filled(entry) = book.place(node, index) {
+            if let Some(entry) = book.place(node, index) {
                 extent = extent.around(Extent::of(&entry.bounds));
             }
         }

@@ -2,7 +2,7 @@
 
 use crate::extent::Extent;
 use book::book::Book;
-use book::place::{Entry, Place};
+use book::place::Entry;
 use browse::answer::{Answer, Counts, Found, Row};
 use geometry::bounds::Bounds;
 use geometry::choice::Choice;
@@ -87,7 +87,7 @@ impl Scan {
         scan.nodes.push(0)?;
         for node in 0..book.node_count() {
             for index in 0..book.place_count(node) {
-                if let Place::Filled(entry) = book.place(node, index) {
+                if let Some(entry) = book.place(node, index) {
                     let far = distance(choice, from, Extent::of(&entry.bounds));
                     scan.add(book.level(node), far, &entry)?;
                 }

@@ -20,7 +20,7 @@ fn kind_number(kind: Option<Kind>) -> u8
     ensures { result ≡ kind_number kind }
 {
     match kind {
-        Some(kind) => kind.number(),
+        Some(kind) => u8::from(kind),
         None => 0,
     }
 }

@@ -5,8 +5,7 @@ use Rattle.std.proofs.ByRecursion.{All-map}
 use Rattle.std.proofs.lemmas.Bool.{cond_both, le-leb}
 use Rattle.std.proofs.lemmas.List.{append_assoc, append-nil, map-append, length_push, take_at, take_all}
 use Rattle.book.specs.Model.{Model, Node}
-use Rattle.book.specs.declared.place.Place.{Place}
-use Rattle.book.specs.declared.place.Place.TheVariants.{Filled, Spoilt}
+use Rattle.book.specs.declared.place.Entry.{Entry}
 use Rattle.book_check.specs.Accepted.{Accepted}
 use Rattle.search.specs.declared.turn.Hand.TheVariants.{Day}
 use Rattle.search.specs.declared.turn.Call.TheVariants.{Next}
@@ -33,10 +32,10 @@ abbrev Near : Row → Type 0
 Near r = r.distance ≤ unlimited
 
 module _ (m : Model) (far : Far) (fits : FitsWord far) where
-  near_things : (c : Class) (ps : List Place) → All (λ x. Near (row x)) (things far c ps)
+  near_things : (c : Class) (ps : List (Option Entry)) → All (λ x. Near (row x)) (things far c ps)
   near_things c [] = tt
-  near_things c (Spoilt ∷ ps) = near_things c ps
-  near_things c (Filled e ∷ ps) = (omega (arith, fits e.bounds), near_things c ps)
+  near_things c (None ∷ ps) = near_things c ps
+  near_things c (Some e ∷ ps) = (omega (arith, fits e.bounds), near_things c ps)
 
   near_picks : (n : Node) → All (λ x. Near (row x)) (picks_in far n)
   near_picks n = cond_both (eqb n.level 0) (things far Pick n.places) [] (All (λ x. Near (row x))) (λ _. near_things Pick n.places) (λ _. tt)

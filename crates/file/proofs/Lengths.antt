@@ -1,10 +1,8 @@
 -- How long the file form and its parts are.
-use Rattle.std.proofs.Common.{◌≡◌, ℕ, suc, ◌+◌, ◌*◌, List, [], ◌∷◌, ◌++◌, length, None, Option, refl, ap, ◌∙◌, arith, length-append}
+use Rattle.std.proofs.Common.{◌≡◌, ℕ, suc, ◌+◌, ◌*◌, List, [], ◌∷◌, ◌++◌, length, None, Option, refl, ap, ◌∙◌, arith, length-append, Some}
 use Rattle.std.proofs.lemmas.List.{length-map}
 use Rattle.geometry.specs.declared.bounds.Point.{Point}
 use Rattle.book.specs.declared.place.Entry.{Entry}
-use Rattle.book.specs.declared.place.Place.{Place}
-use Rattle.book.specs.declared.place.Place.TheVariants.{Filled, Spoilt}
 use Rattle.book.specs.Kinds.{number_of}
 use Rattle.book.specs.Model.{Node, Model, node_count, pick_limit}
 use Rattle.book.specs.Spoilt.{spoilt_place, spoilt_node, first_spoilt}
@@ -29,12 +27,12 @@ pub length_entry_record : (e : Entry) → length (entry_record e) ≡ 26
 length_entry_record e = simp (length-append, length_bytes_of)
 
 -- where no place is spoilt, each has its record
-place_records_unspoilt : (n i : ℕ) (ps : List Place) (later : Option (ℕ × ℕ)) → None ≡ spoilt_place n i ps later → (length (place_records ps) ≡ 26 * length ps) × (None ≡ later)
+place_records_unspoilt : (n i : ℕ) (ps : List (Option Entry)) (later : Option (ℕ × ℕ)) → None ≡ spoilt_place n i ps later → (length (place_records ps) ≡ 26 * length ps) × (None ≡ later)
 place_records_unspoilt n i [] later none = (refl, none)
-place_records_unspoilt n i (Filled e ∷ ps) later none =
+place_records_unspoilt n i (Some e ∷ ps) later none =
     let rest = place_records_unspoilt n (i + 1) ps later none in
     (length-append (entry_record e) (place_records ps) ∙ omega (arith, length_entry_record e, rest.0), rest.1)
-place_records_unspoilt n i (Spoilt ∷ ps) later none = let wrong : ◌≡◌ {A = ℕ} 0 1 = cc in absurd (omega arith)
+place_records_unspoilt n i (None ∷ ps) later none = let wrong : ◌≡◌ {A = ℕ} 0 1 = cc in absurd (omega arith)
 
 pub length_entry_records : (n : ℕ) (ns : List Node) → None ≡ spoilt_node n ns → length (entry_records ns) ≡ 26 * places_in ns
 length_entry_records n [] none = refl

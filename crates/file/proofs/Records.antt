@@ -1,12 +1,10 @@
 -- What is left of the records, one more at a time.
-use Rattle.std.proofs.Common.{◌≡◌, ℕ, ◌+◌, ◌<◌, ◌≤◌, List, [], ◌∷◌, ◌++◌, map, length, get_or, drop, Some, None, sym, refl, ap, ◌∙◌, arith}
+use Rattle.std.proofs.Common.{◌≡◌, ℕ, ◌+◌, ◌<◌, ◌≤◌, List, [], ◌∷◌, ◌++◌, map, length, get_or, drop, Some, None, sym, refl, ap, ◌∙◌, arith, Option}
 use Rattle.std.proofs.lemmas.List.{at_drop_more, get_or-map}
 use Rattle.geometry.specs.declared.bounds.Point.{Point}
 use Rattle.book.specs.declared.kind.Kind.{Kind}
 use Rattle.book.specs.declared.kind.Kind.TheVariants.{CasingTop}
 use Rattle.book.specs.declared.place.Entry.{Entry}
-use Rattle.book.specs.declared.place.Place.{Place}
-use Rattle.book.specs.declared.place.Place.TheVariants.{Spoilt}
 use Rattle.book.specs.Kinds.{number_of}
 use Rattle.book.specs.Model.{Node, no_node}
 use Rattle.book.specs.Totals.{places_in}
@@ -28,9 +26,9 @@ pub entries_next : (ns : List Node) (i : ℕ) → i < length ns → entry_record
 entries_next ns i within = at_drop_more entry_records ns i no_node within
 
 -- the place at i is p
-pub place_next : (ps : List Place) (i : ℕ) → i < length ps → (p : Place) → p ≡ get_or ps i Spoilt → place_records (drop i ps) ≡ place_record p ++ place_records (drop (i + 1) ps)
+pub place_next : (ps : List (Option Entry)) (i : ℕ) → i < length ps → (p : Option Entry) → p ≡ get_or ps i None → place_records (drop i ps) ≡ place_record p ++ place_records (drop (i + 1) ps)
 place_next ps i within p e =
-    at_drop_more place_records ps i Spoilt within ∙ ap (λ q. place_record q ++ place_records (drop (i + 1) ps)) (sym e)
+    at_drop_more place_records ps i None within ∙ ap (λ q. place_record q ++ place_records (drop (i + 1) ps)) (sym e)
 
 -- the pick at i has the kind k
 pub pick_next : (ks : List Kind) (i : ℕ) → i < length ks → (k : Kind) → Some k ≡ get_or (map Some ks) i None → pick_records (drop i ks) ≡ (number_of k ∷ []) ++ pick_records (drop (i + 1) ks)

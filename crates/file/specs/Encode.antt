@@ -1,12 +1,10 @@
 -- The file form of a book: its bytes, as numbers below 256. All numbers in it are little-endian.
-use Rattle.std.specs.Prelude.{ℕ, zero, suc, ◌+◌, ◌-◌, ◌/◌, ◌%◌, ◌^◌, List, [], ◌∷◌, ◌++◌, map, length, ℤ, pos, negsuc}
+use Rattle.std.specs.Prelude.{ℕ, zero, suc, ◌+◌, ◌-◌, ◌/◌, ◌%◌, ◌^◌, List, [], ◌∷◌, ◌++◌, map, length, ℤ, pos, negsuc, Some, None, Option}
 use Rattle.std.specs.List.{flat_map}
 use Rattle.geometry.specs.declared.bounds.Point.{Point}
 use Rattle.geometry.specs.declared.bounds.Bounds.{Bounds}
 use Rattle.book.specs.declared.kind.Kind.{Kind}
 use Rattle.book.specs.declared.place.Entry.{Entry}
-use Rattle.book.specs.declared.place.Place.{Place}
-use Rattle.book.specs.declared.place.Place.TheVariants.{Filled, Spoilt}
 use Rattle.book.specs.Kinds.{number_of}
 use Rattle.book.specs.Model.{Node, Model, node_count, pick_limit}
 use Rattle.book.specs.Totals.{total_places}
@@ -49,11 +47,11 @@ abbrev pub entry_record : Entry → List ℕ
 entry_record e = point_bytes (low_ends e.bounds) ++ (point_bytes (high_ends e.bounds) ++ le16 e.target)
 
 -- a spoilt place has no record: such a book has no file
-abbrev pub place_record : Place → List ℕ
-place_record (Filled e) = entry_record e
-place_record Spoilt = []
+abbrev pub place_record : Option Entry → List ℕ
+place_record (Some e) = entry_record e
+place_record None = []
 
-abbrev pub place_records : List Place → List ℕ
+abbrev pub place_records : List (Option Entry) → List ℕ
 place_records = flat_map place_record
 
 abbrev pub entry_records : List Node → List ℕ

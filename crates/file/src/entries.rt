@@ -8,7 +8,7 @@ ghost use Rattle.file.specs.Put.{Put};
 
 use crate::put::{put_point, put_u16};
 use book::book::Book;
-use book::place::{Entry, Place};
+use book::place::Entry;
 use geometry::bounds::{Bounds, Point};
 
 fn low_ends(bounds: &Bounds) -> Point
@@ -48,7 +48,7 @@ fn put_node_entries<B: Book>(book: &B, node: u16, out: &mut [u8], start: usize) 
 {
     let mut at = start;
     for index in 0..book.place_count(node) {
-        if let Place::Filled(entry) = book.place(node, index) {
+        if let Some(entry) = book.place(node, index) {
             at = put_entry(entry, out, at);
         }
     }

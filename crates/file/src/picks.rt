@@ -14,7 +14,7 @@ fn put_pick_records<B: Book>(book: &B, out: &mut [u8], start: usize) -> usize
     let mut at = start;
     for pick in 0..book.pick_limit() {
         if let Some(kind) = book.kind(pick) {
-            at = put_bytes(&[kind.number()], out, at);
+            at = put_bytes(&[u8::from(kind)], out, at);
         }
     }
     at

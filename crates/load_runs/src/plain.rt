@@ -1,7 +1,7 @@
 //! A plain decoder, written from the file form and from nothing else.
 
 use book::book::Book;
-use book::place::{Entry, Place};
+use book::place::Entry;
 use loaded::loaded::Loaded;
 
 fn byte(bytes: &[u8], at: u64) -> u64 {
@@ -115,7 +115,7 @@ fn end_fine(low: i64, high: i64) -> bool {
 }
 
 // Whether the place is what the record at `at` says.
-fn same_place(place: Place, bytes: &[u8], at: u64) -> bool {
+fn same_place(place: Option<Entry>, bytes: &[u8], at: u64) -> bool {
     let fine = end_fine(long(bytes, at), long(bytes, at.saturating_add(12)))
         && end_fine(
             long(bytes, at.saturating_add(4)),
@@ -126,8 +126,8 @@ fn same_place(place: Place, bytes: &[u8], at: u64) -> bool {
             long(bytes, at.saturating_add(20)),
         );
     match place {
-        Place::Filled(entry) => fine && same_entry(&entry, bytes, at),
-        Place::Spoilt => !fine,
+        Some(entry) => fine && same_entry(&entry, bytes, at),
+        None => !fine,
     }
 }
 
@@ -189,7 +189,7 @@ pub(crate) fn same_book(book: &Loaded, bytes: &[u8]) -> bool {
     }
     for pick in 0..book.pick_limit() {
         let number = match book.kind(pick) {
-            Some(kind) => kind.number(),
+            Some(kind) => u8::from(kind),
             None => 0,
         };
         if u64::from(number)

@@ -10,7 +10,7 @@ use Rattle.book.specs.Kinds.{number_of, kind_with}
 use Rattle.book.specs.Model.{Model}
 use Rattle.book.specs.declared.kind.Kind.{Kind}
 use Rattle.book.specs.declared.kind.Kind.TheVariants.{CasingTop, Collar, Perforation, Marker, FluidLevel}
-use Rattle.book.specs.declared.place.Place.{Place}
+use Rattle.book.specs.declared.place.Entry.{Entry}
 use Rattle.loaded.specs.declared.record.NodeRecord.{NodeRecord}
 use Rattle.loaded.specs.Reading.{Read, read, after, tested, count_in, records_in, rows}
 use Rattle.loaded.specs.Tables.{book_of, places_of_all, within_limits, firsts_add_up, lawful_nodes}
@@ -126,7 +126,7 @@ entries_count (suc n) raw = ap suc (entries_count n (drop 26 raw))
 
 entries_places : (n : ℕ) (raw : List ℕ) → map place_from (cut_into n raw) ≡ places_from n raw
 entries_places zero raw = refl
-entries_places (suc n) raw = ap (λ (ps : List Place). place_from (take 26 raw) ∷ ps) (entries_places n (drop 26 raw))
+entries_places (suc n) raw = ap (λ (ps : List (Option Entry)). place_from (take 26 raw) ∷ ps) (entries_places n (drop 26 raw))
 
 number_of_lem : (b : ℕ) (k : Kind) → kind_with b ≡ Some k → number_of k ≡ b
 number_of_lem b CasingTop e = grind (arith, nat_tests)
@@ -213,7 +213,7 @@ node_section_apart bytes x h e =
       rest = r.rest;
     })
 
-record EntriesApart (places : ℕ) (bytes : List ℕ) (x : Read (List Place)) : Type 0 where
+record EntriesApart (places : ℕ) (bytes : List ℕ) (x : Read (List (Option Entry))) : Type 0 where
   entries : List (List ℕ)
   laid : bytes ≡ section entries ++ x.rest
   most : length entries ≤ 2048
@@ -222,10 +222,10 @@ record EntriesApart (places : ℕ) (bytes : List ℕ) (x : Read (List Place)) : 
   holds : x.value ≡ map place_from entries
   rest : Bytes x.rest
 
-entry_section_apart : (places : ℕ) (bytes : List ℕ) (x : Read (List Place)) → Bytes bytes → entry_section places bytes ≡ Ok x → EntriesApart places bytes x
+entry_section_apart : (places : ℕ) (bytes : List ℕ) (x : Read (List (Option Entry))) → Bytes bytes → entry_section places bytes ≡ Ok x → EntriesApart places bytes x
 unfolding entry_section
 entry_section_apart places bytes x h e =
-    let last : ℕ → List ℕ → List ℕ → Result (Read (List Place)) Told = λ n records rest. Ok (read (places_from n records) rest) in
+    let last : ℕ → List ℕ → List ℕ → Result (Read (List (Option Entry))) Told = λ n records rest. Ok (read (places_from n records) rest) in
     let one = after_ok (count_in 0 2048 bytes) (λ n rest. tested 3 (eqb n places) (after (records_in n 26 rest) (last n))) x e in
     let n = one.0.value in
     let c = count_apart 0 2048 bytes one.0 h one.1 in
@@ -272,7 +272,7 @@ unfolding decode three_sections
 decoded_lawful bytes book h e =
     let whole = after_ok (three_sections bytes) (λ found rest. tested 1 (eqb (length rest) 0) (Ok found)) book e in
     let end = tested_ok 1 (eqb (length whole.0.rest) 0) (Ok whole.0.value) book whole.2 in
-    let gives : List NodeRecord → List Place → List Kind → List ℕ → Result (Read Model) Told = λ nodes places kinds rest. Ok (read (book_of nodes places kinds) rest) in
+    let gives : List NodeRecord → List (Option Entry) → List Kind → List ℕ → Result (Read Model) Told = λ nodes places kinds rest. Ok (read (book_of nodes places kinds) rest) in
     let one = after_ok (node_section bytes) (λ nodes rest. after (entry_section (places_of_all nodes) rest) (λ places rest. after (pick_section rest) (gives nodes places))) whole.0 whole.1 in
     let nodes = one.0.value in
     let n = node_section_apart bytes one.0 h one.1 in
@@ -304,5 +304,5 @@ decoded_lawful bytes book h e =
       holds =
           sym (ok_same whole.0.value book end.1)
           ∙ sym (ap (λ (x : Read Model). x.value) found)
-          ∙ ap (λ (places : List Place). book_of nodes places three.0.value) m.holds;
+          ∙ ap (λ (places : List (Option Entry)). book_of nodes places three.0.value) m.holds;
     }

@@ -1,7 +1,7 @@
 -- Tables that were filled from the sections of a lawful file are lawful.
-use Rattle.std.proofs.Common.{◌≡◌, ℕ, zero, suc, ◌<◌, ◌≤◌, true, List, length, drop, sym, refl, ap, ◌∙◌, arith}
+use Rattle.std.proofs.Common.{◌≡◌, ℕ, zero, suc, ◌<◌, ◌≤◌, true, List, length, drop, sym, refl, ap, ◌∙◌, arith, Option}
 use Rattle.book.specs.declared.kind.Kind.{Kind}
-use Rattle.book.specs.declared.place.Place.{Place}
+use Rattle.book.specs.declared.place.Entry.{Entry}
 use Rattle.loaded.specs.declared.record.NodeRecord.{NodeRecord}
 use Rattle.loaded.specs.declared.sections.Section.{Section}
 use Rattle.loaded.specs.Reading.{rows}
@@ -28,7 +28,7 @@ module _ (nodes entries picks : Section) (f : Lawful nodes entries picks) where
     pub nodes_lawful : lawful_nodes ns ≡ true
     nodes_lawful = ap lawful_nodes same ∙ f.nodes.lawful
 
-    pub places_total : (ps : List Place) → ps ≡ places_in entries → places_of_all ns ≡ length ps
+    pub places_total : (ps : List (Option Entry)) → ps ≡ places_in entries → places_of_all ns ≡ length ps
     places_total ps e =
         ap places_of_all same
         ∙ sym f.entries.total

@@ -1,5 +1,5 @@
 -- A file that is laid out lawfully is read as its book.
-use Rattle.std.proofs.Common.{◌≡◌, ℕ, suc, ◌+◌, ◌*◌, ◌/◌, ◌%◌, ◌<◌, ◌≤◌, true, ◌&&◌, eqb, leb, List, [], ◌∷◌, ◌++◌, map, length, get_or, take, drop, Some, Ok, sym, refl, ap, ◌∙◌, suc-mul, arith, length-append}
+use Rattle.std.proofs.Common.{◌≡◌, ℕ, suc, ◌+◌, ◌*◌, ◌/◌, ◌%◌, ◌<◌, ◌≤◌, true, ◌&&◌, eqb, leb, List, [], ◌∷◌, ◌++◌, map, length, get_or, take, drop, Some, Ok, sym, refl, ap, ◌∙◌, suc-mul, arith, length-append, Option}
 use lib.ListN.{length-map}
 use Rattle.std.proofs.lemmas.List.{take_at, drop_at, append-nil}
 use Rattle.std.proofs.lemmas.Bool.{and_from, le-leb, eq-eqb}
@@ -8,7 +8,7 @@ use Rattle.book.specs.Kinds.{number_of, kind_with}
 use Rattle.book.specs.Model.{Model}
 use Rattle.book.specs.declared.kind.Kind.{Kind}
 use Rattle.book.specs.declared.kind.Kind.TheVariants.{CasingTop, Collar, Perforation, Marker, FluidLevel}
-use Rattle.book.specs.declared.place.Place.{Place}
+use Rattle.book.specs.declared.place.Entry.{Entry}
 use Rattle.loaded.specs.declared.record.NodeRecord.{NodeRecord}
 use Rattle.loaded.specs.Reading.{read, count_in, records_in}
 use Rattle.loaded.specs.Tables.{places_of_all, within_limits, firsts_add_up, lawful_nodes}
@@ -58,7 +58,7 @@ entries_back (e ∷ es) h =
     let rest = flat_map (λ (e : List ℕ). e) es in
     ap (λ (bytes : List ℕ). place_from bytes ∷ places_from (length es) (drop 26 (e ++ rest))) (take_at e rest 26 h.0)
     ∙ ap (λ (bytes : List ℕ). place_from e ∷ places_from (length es) bytes) (drop_at e rest 26 h.0)
-    ∙ ap (λ (places : List Place). place_from e ∷ places) (entries_back es h.1)
+    ∙ ap (λ (places : List (Option Entry)). place_from e ∷ places) (entries_back es h.1)
 
 kind_back : (k : Kind) → kind_with (number_of k) ≡ Some k
 kind_back CasingTop = refl

@@ -1,17 +1,17 @@
 -- Book W: two leaves of two picks each under one root, and the file that holds it.
-use Rattle.std.specs.Prelude.{ℕ, List, [], ◌∷◌, ◌++◌, ℤ, pos, negsuc}
+use Rattle.std.specs.Prelude.{ℕ, List, [], ◌∷◌, ◌++◌, ℤ, pos, negsuc, Option}
 use Rattle.geometry.specs.Bounds.{bounds_at}
 use Rattle.geometry.specs.declared.bounds.Point.{Point}
 use Rattle.book.specs.Model.{Model}
 use Rattle.book.specs.declared.kind.Kind.TheVariants.{CasingTop, Perforation, Marker}
-use Rattle.book.specs.declared.place.Place.{Place}
+use Rattle.book.specs.declared.place.Entry.{Entry}
 use Rattle.loaded.specs.Decode.{place_with}
 
 abbrev spot : ℤ → ℤ → ℤ → Point
 spot easting northing level = record { easting = easting; northing = northing; level = level }
 
 -- the box from one point to another, naming a pick or a node
-abbrev entry : Point → Point → ℕ → Place
+abbrev entry : Point → Point → ℕ → Option Entry
 entry low high target = place_with (bounds_at low high) target
 
 abbrev pub book_w : Model

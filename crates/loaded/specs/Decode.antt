@@ -7,8 +7,7 @@ use Rattle.geometry.specs.declared.bounds.Bounds.{Bounds}
 use Rattle.book.specs.Kinds.{kind_with}
 use Rattle.book.specs.Model.{Model}
 use Rattle.book.specs.declared.kind.Kind.{Kind}
-use Rattle.book.specs.declared.place.Place.{Place}
-use Rattle.book.specs.declared.place.Place.TheVariants.{Filled, Spoilt}
+use Rattle.book.specs.declared.place.Entry.{Entry}
 use Rattle.loaded.specs.declared.record.NodeRecord.{NodeRecord}
 use Rattle.loaded.specs.Reading.{byte_at, short_at, long_at, Read, read, after, tested, count_in, records_in, rows}
 use Rattle.loaded.specs.Tables.{book_of, places_of_all, lawful_nodes}
@@ -21,18 +20,18 @@ abbrev pub nodes_from : ℕ → List ℕ → List NodeRecord
 nodes_from = rows node_from 4
 
 -- the entry with this box, or a spoilt place where the ends make no box
-abbrev pub place_with : Option Bounds → ℕ → Place
-place_with (Some box) target = Filled (record { bounds = box; target = target })
-place_with None target = Spoilt
+abbrev pub place_with : Option Bounds → ℕ → Option Entry
+place_with (Some box) target = Some (record { bounds = box; target = target })
+place_with None target = None
 
 abbrev pub point_from : List ℕ → ℕ → Point
 point_from bytes at = record { easting = long_at bytes at; northing = long_at bytes (at + 4); level = long_at bytes (at + 8) }
 
 -- an entry record, of 26 bytes: the low ends, the high ends, and the target
-abbrev pub place_from : List ℕ → Place
+abbrev pub place_from : List ℕ → Option Entry
 place_from bytes = place_with (bounds_at (point_from bytes 0) (point_from bytes 12)) (short_at bytes 24)
 
-abbrev pub places_from : ℕ → List ℕ → List Place
+abbrev pub places_from : ℕ → List ℕ → List (Option Entry)
 places_from = rows place_from 26
 
 -- a pick record is its kind's number
@@ -57,7 +56,7 @@ node_section bytes =
     (Ok (read (nodes_from count records) rest))))
 
 -- the nodes have so many places together
-unfoldable pub entry_section : ℕ → List ℕ → Result (Read (List Place)) Told
+unfoldable pub entry_section : ℕ → List ℕ → Result (Read (List (Option Entry))) Told
 entry_section places bytes =
     after (count_in 0 2048 bytes)
     (λ count rest. tested 3 (count == places)

@@ -1,10 +1,10 @@
 -- What the readers of the code give, as the values that the definitions speak of: their slices as lists of bytes.
-use Rattle.std.specs.Prelude.{◌≡◌, ℕ, ◌*◌, ◌≤◌, true, List, length, Ok, Err, Result}
+use Rattle.std.specs.Prelude.{◌≡◌, ℕ, ◌*◌, ◌≤◌, true, List, length, Ok, Err, Result, Option}
 use Rattle.refusal.specs.Told.{Told, file_told}
 use Rattle.refusal.specs.declared.hands.FileFault.{FileFault}
 use Rattle.book.specs.Model.{Model}
 use Rattle.book.specs.declared.kind.Kind.{Kind}
-use Rattle.book.specs.declared.place.Place.{Place}
+use Rattle.book.specs.declared.place.Entry.{Entry}
 use Rattle.loaded.specs.declared.record.NodeRecord.{NodeRecord}
 use Rattle.loaded.specs.declared.sections.Section.{Section}
 use Rattle.loaded.specs.declared.sections.Sections.{Sections}
@@ -20,7 +20,7 @@ seen view (Err fault) = Err (file_told fault)
 abbrev pub nodes_in : Section → List NodeRecord
 nodes_in s = nodes_from s.count s.records.now
 
-abbrev pub places_in : Section → List Place
+abbrev pub places_in : Section → List (Option Entry)
 places_in s = places_from s.count s.records.now
 
 abbrev pub kinds_in : Section → List Kind

@@ -7,15 +7,14 @@ use Rattle.std.proofs.lemmas.Bool.Decides.{nat_tests}
 use Rattle.book.specs.Model.{Node, Model, BookShape, no_node, node_count}
 use Rattle.book.specs.Model as model
 use Rattle.book.specs.declared.kind.Kind.{Kind}
-use Rattle.book.specs.declared.place.Place.{Place}
-use Rattle.book.specs.declared.place.Place.TheVariants.{Filled, Spoilt}
+use Rattle.book.specs.declared.place.Entry.{Entry}
 use Rattle.loaded.specs.declared.record.NodeRecord.{NodeRecord}
 use Rattle.std.specs.Option.{option_map}
 use Rattle.std.specs.Slice.{IsGetResult}
 use Rattle.std.specs.Borrow.{Bor}
 use Rattle.loaded.specs.Tables.{target_fits, node_of, book_of, places_of_all, firsts_add_up, within_limits, lawful_nodes, all_targets_fit}
 
-module _ (rs : List NodeRecord) (ps : List Place) (ks : List Kind) where
+module _ (rs : List NodeRecord) (ps : List (Option Entry)) (ks : List Kind) where
   pub at_node_lem : (i : ℕ) (r : NodeRecord) → i < length rs → r ≡ slice_index_or rs i r → model.node_of (book_of rs ps ks) i ≡ node_of ps r
   at_node_lem i r h e = get_or-map (node_of ps) rs i r no_node h ∙ ap (node_of ps) (sym e)
 
@@ -42,24 +41,24 @@ within_at rs i r h e w =
     let l = within 0 rs i r h t.1 in
     rw e (omega arith)
 
-pub places_are : (ps : List Place) (r : NodeRecord) → r.first + r.places ≤ length ps → length (node_of ps r).places ≡ r.places
+pub places_are : (ps : List (Option Entry)) (r : NodeRecord) → r.first + r.places ≤ length ps → length (node_of ps r).places ≡ r.places
 places_are ps r w = simp (length-take, length-drop) (omega arith)
 
-pub at_place : (ps : List Place) (r : NodeRecord) (i : ℕ) (p : Place) → i < r.places → p ≡ slice_index_or ps (r.first + i) p → r.first + r.places ≤ length ps → slice_index_or (node_of ps r).places i Spoilt ≡ p
+pub at_place : (ps : List (Option Entry)) (r : NodeRecord) (i : ℕ) (p : Option Entry) → i < r.places → p ≡ slice_index_or ps (r.first + i) p → r.first + r.places ≤ length ps → slice_index_or (node_of ps r).places i None ≡ p
 at_place ps r i p h e w =
-    get_or-take r.places (drop r.first ps) i Spoilt h
-    ∙ get_or-drop r.first ps i Spoilt
-    ∙ sym (get_or_read ps (r.first + i) p (omega arith) e Spoilt)
+    get_or-take r.places (drop r.first ps) i None h
+    ∙ get_or-drop r.first ps i None
+    ∙ sym (get_or_read ps (r.first + i) p (omega arith) e None)
 
-pub past_place : (ps : List Place) (r : NodeRecord) (i : ℕ) → r.places ≤ i → slice_index_or (node_of ps r).places i Spoilt ≡ Spoilt
-past_place ps r i h = get_or_past (node_of ps r).places i Spoilt (simp (length-take, length-drop) (omega arith))
+pub past_place : (ps : List (Option Entry)) (r : NodeRecord) (i : ℕ) → r.places ≤ i → slice_index_or (node_of ps r).places i None ≡ None
+past_place ps r i h = get_or_past (node_of ps r).places i None (simp (length-take, length-drop) (omega arith))
 
 -- the kind that a look into the table finds
 pub kind_found : (ks : List Kind) (p : ℕ) (r : Option (Bor Kind)) → IsGetResult ks p p r → option_map (λ (x : Bor Kind). x.now) r ≡ slice_index_or (map Some ks) p None
 kind_found ks p None h = sym (get_or_past (map Some ks) p None (omega (arith, length-map ks Some, h.3)))
 kind_found ks p (Some k) h = sym (get_or-map Some ks p k.now None h.3.0 ∙ ap Some (sym h.1))
 
-low : (ps : List Place) (rs : List NodeRecord) → within_limits rs ≡ true → (n : ℕ) → (get_or (map (node_of ps) rs) n no_node).level ≤ 7
+low : (ps : List (Option Entry)) (rs : List NodeRecord) → within_limits rs ≡ true → (n : ℕ) → (get_or (map (node_of ps) rs) n no_node).level ≤ 7
 low ps [] w n = omega arith
 low ps (r ∷ rs) w zero =
     let t = and_parts (nat_le r.level 7 && nat_le r.places 16) (within_limits rs) w in
@@ -67,7 +66,7 @@ low ps (r ∷ rs) w zero =
     grind (arith, nat_tests)
 low ps (r ∷ rs) w (suc n) = low ps rs (and_parts (nat_le r.level 7 && nat_le r.places 16) (within_limits rs) w).1 n
 
-few : (ps : List Place) (rs : List NodeRecord) → within_limits rs ≡ true → (n : ℕ) → length (get_or (map (node_of ps) rs) n no_node).places ≤ 16
+few : (ps : List (Option Entry)) (rs : List NodeRecord) → within_limits rs ≡ true → (n : ℕ) → length (get_or (map (node_of ps) rs) n no_node).places ≤ 16
 few ps [] w n = omega arith
 few ps (r ∷ rs) w zero =
     let t = and_parts (nat_le r.level 7 && nat_le r.places 16) (within_limits rs) w in
@@ -76,33 +75,33 @@ few ps (r ∷ rs) w zero =
     simp (length-take, length-drop) (omega arith)
 few ps (r ∷ rs) w (suc n) = few ps rs (and_parts (nat_le r.level 7 && nat_le r.places 16) (within_limits rs) w).1 n
 
-abbrev Fits : Place → Type 0
-Fits (Filled e) = e.target < 65536
-Fits Spoilt = Unit {0}
+abbrev Fits : Option Entry → Type 0
+Fits (Some e) = e.target < 65536
+Fits None = Unit {0}
 
-fit_here : (p : Place) → target_fits p ≡ true → Fits p
-fit_here (Filled e) h = grind (arith, nat_tests)
-fit_here Spoilt h = tt
+fit_here : (p : Option Entry) → target_fits p ≡ true → Fits p
+fit_here (Some e) h = grind (arith, nat_tests)
+fit_here None h = tt
 
-fit : (ps : List Place) → all_targets_fit ps ≡ true → (i : ℕ) → Fits (slice_index_or ps i Spoilt)
+fit : (ps : List (Option Entry)) → all_targets_fit ps ≡ true → (i : ℕ) → Fits (slice_index_or ps i None)
 fit [] h i = tt
 fit (p ∷ ps) h zero = fit_here p (and_parts (target_fits p) (all_targets_fit ps) h).0
 fit (p ∷ ps) h (suc i) = fit ps (and_parts (target_fits p) (all_targets_fit ps) h).1 i
 
-fit_part : (ps : List Place) → all_targets_fit ps ≡ true → (from count i : ℕ) → Fits (slice_index_or (take count (drop from ps)) i Spoilt)
+fit_part : (ps : List (Option Entry)) → all_targets_fit ps ≡ true → (from count i : ℕ) → Fits (slice_index_or (take count (drop from ps)) i None)
 fit_part ps h from count i =
     elim (cases_lt i count) [
-      | inl l ↦ rw (get_or-take count (drop from ps) i Spoilt l, get_or-drop from ps i Spoilt) (fit ps h (from + i))
-      | inr l ↦ rw (get_or_past (take count (drop from ps)) i Spoilt (simp (length-take, length-drop) (omega arith))) tt
+      | inl l ↦ rw (get_or-take count (drop from ps) i None l, get_or-drop from ps i None) (fit ps h (from + i))
+      | inr l ↦ rw (get_or_past (take count (drop from ps)) i None (simp (length-take, length-drop) (omega arith))) tt
     ]
 
-fit_node : (ps : List Place) → all_targets_fit ps ≡ true → (rs : List NodeRecord) (n i : ℕ) → Fits (slice_index_or (get_or (map (node_of ps) rs) n no_node).places i Spoilt)
+fit_node : (ps : List (Option Entry)) → all_targets_fit ps ≡ true → (rs : List NodeRecord) (n i : ℕ) → Fits (slice_index_or (get_or (map (node_of ps) rs) n no_node).places i None)
 fit_node ps h [] n i = tt
 fit_node ps h (r ∷ rs) zero i = fit_part ps h r.first r.places i
 fit_node ps h (r ∷ rs) (suc n) i = fit_node ps h rs n i
 
 -- every book of lawful tables has a book's shape
-pub shape : (rs : List NodeRecord) (ps : List Place) (ks : List Kind) → 0 < length rs → length rs ≤ 512 → length ks ≤ 2048 → lawful_nodes rs ≡ true → all_targets_fit ps ≡ true → BookShape (book_of rs ps ks)
+pub shape : (rs : List NodeRecord) (ps : List (Option Entry)) (ks : List Kind) → 0 < length rs → length rs ≤ 512 → length ks ≤ 2048 → lawful_nodes rs ≡ true → all_targets_fit ps ≡ true → BookShape (book_of rs ps ks)
 shape rs ps ks a b c l t =
     let w = (and_parts (within_limits rs) (firsts_add_up 0 rs) l).0 in
     record {
@@ -129,7 +128,7 @@ firsts_next e r rs h = ap (λ (t : Bool). t && firsts_add_up (e + r.places) rs) 
 pub firsts_stop : (e : ℕ) (r : NodeRecord) (rs : List NodeRecord) → (r.first ≢ e) → firsts_add_up e (r ∷ rs) ≡ false
 firsts_stop e r rs h = ap (λ (t : Bool). t && firsts_add_up (e + r.places) rs) (ne_eqb r.first e h)
 
-pub fits_push : (ps : List Place) (p : Place) → all_targets_fit ps ≡ true → target_fits p ≡ true → all_targets_fit (ps ++ p ∷ []) ≡ true
+pub fits_push : (ps : List (Option Entry)) (p : Option Entry) → all_targets_fit ps ≡ true → target_fits p ≡ true → all_targets_fit (ps ++ p ∷ []) ≡ true
 fits_push [] p h f = and_from (target_fits p) true f refl
 fits_push (q ∷ ps) p h f =
     let t = and_parts (target_fits q) (all_targets_fit ps) h in

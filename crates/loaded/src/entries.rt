@@ -6,7 +6,7 @@ ghost use Rattle.loaded.specs.Decode.{point_from, place_from, places_from};
 ghost use Rattle.loaded.specs.Tables.{target_fits, all_targets_fit};
 
 use crate::limits::ENTRY;
-use book::place::{Entry, Place};
+use book::place::Entry;
 use geometry::bounds::{Bounds, Point};
 
 fn read_coordinate(bytes: &[u8], at: usize) -> i32
@@ -28,7 +28,7 @@ fn read_point(bytes: &[u8], at: usize) -> Point
 }
 
 /// The entry of this record, or a spoilt place where its ends make no box.
-fn read_place(bytes: &[u8]) -> Place
+fn read_place(bytes: &[u8]) -> Option<Entry>
     requires { 26 ≤ length bytes.now }
     ensures place { result ≡ place_from bytes.now }
     ensures fits { target_fits result ≡ true }
@@ -37,13 +37,13 @@ fn read_place(bytes: &[u8]) -> Place
     let high = read_point(bytes, 12);
     let target = u16::from_le_bytes([bytes[24], bytes[25]]);
     match Bounds::between(low, high) {
-        Some(bounds) => Place::Filled(Entry { bounds, target }),
-        None => Place::Spoilt,
+        Some(bounds) => Some(Entry { bounds, target }),
+        None => None,
     }
 }
 
 /// Fills the table with the places of these records alone.
-pub(crate) fn fill_places(table: &mut Vec<Place>, records: &[u8], count: usize)
+pub(crate) fn fill_places(table: &mut Vec<Option<Entry>>, records: &[u8], count: usize)
     requires { (count * 26 ≤ length records.now) × (count ≤ vec_capacity table.old) }
     ensures items { table.new.items ≡ places_from count records.now }
     ensures fits { all_targets_fit table.new.items ≡ true }

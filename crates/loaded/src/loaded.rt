@@ -5,7 +5,7 @@ ghost use Rattle.loaded.specs.Tables.{lawful_nodes, places_of_all, all_targets_f
 
 use crate::record::NodeRecord;
 use book::kind::Kind;
-use book::place::Place;
+use book::place::Entry;
 
 mod empty;
 mod load;
@@ -15,7 +15,7 @@ mod questions;
 #[derive(Drop)]
 pub struct Loaded {
     nodes: Vec<NodeRecord>,
-    places: Vec<Place>,
+    places: Vec<Option<Entry>>,
     kinds: Vec<Kind>,
     ghost some: { 0 < length nodes.items },
     ghost nodesMost: { length nodes.items ≤ 512 },

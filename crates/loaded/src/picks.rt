@@ -11,7 +11,7 @@ pub(crate) fn all_kinds(numbers: &[u8]) -> bool
     // With no way out of the loop several numbers are tested at a time.
     let mut all = true;
     for number in numbers {
-        all &= Kind::with_number(*number).is_some();
+        all &= Kind::try_from(*number).is_ok();
     }
     all
 }
@@ -24,7 +24,7 @@ pub(crate) fn fill_kinds(table: &mut Vec<Kind>, numbers: &[u8])
 {
     table.clear();
     for number in numbers {
-        if let Some(kind) = Kind::with_number(*number) {
+        if let Ok(kind) = Kind::try_from(*number) {
             table.push_reserved(kind);
         }
     }

@@ -7,8 +7,7 @@ use Rattle.std.proofs.lemmas.List.FromFn.{fill_by_all}
 use Rattle.std.proofs.lemmas.List.{at_drop_more, at_drop_all, get_or-map}
 use Rattle.book.specs.Model.{Model, no_node, node_of, node_count, pick_limit, level_of, place_count, place_of, kind_of}
 use Rattle.book.specs.declared.kind.Kind.TheVariants.{Marker}
-use Rattle.book.specs.declared.place.Place.{Place}
-use Rattle.book.specs.declared.place.Place.TheVariants.{Spoilt}
+use Rattle.book.specs.declared.place.Entry.{Entry}
 use Rattle.geometry.specs.declared.bounds.Bounds.{Bounds}
 use Rattle.makes.specs.Places.{place_for}
 use Rattle.makes.specs.Join.{sizes_of, nothing, renumbered, renumbered_node, root_of, root_boxes, root_box, new_root, both_books}
@@ -35,10 +34,10 @@ root_boxes_count m s e = simp length-map (ap (λ (z : Sizes). place_count m (z.n
 root_boxes_at : (m : Model) (i : ℕ) → box_of (renumbered (sizes_of m) nothing (root_of m).level (place_of m (node_count m - 1) i)) ≡ get_or (root_boxes m) i None
 root_boxes_at m i =
     let f = renumbered (sizes_of m) nothing (root_of m).level in
-    sym (ListN.get_or-map box_of (map f (root_of m).places) i Spoilt ∙ ap box_of (ListN.get_or-map f (root_of m).places i Spoilt))
+    sym (ListN.get_or-map box_of (map f (root_of m).places) i None ∙ ap box_of (ListN.get_or-map f (root_of m).places i None))
 
 -- the box of one entry of the root, as the code comes to it
-pub root_box_at : (m : Model) (s : Sizes) → s ≡ sizes_of m → (level i : ℕ) (was now' : Place) (b : Option Bounds) → level ≡ level_of m (s.nodes - 1) → was ≡ place_of m (s.nodes - 1) i → now' ≡ renumbered s nothing level was → b ≡ box_of now' → b ≡ get_or (root_boxes m) i None
+pub root_box_at : (m : Model) (s : Sizes) → s ≡ sizes_of m → (level i : ℕ) (was now' : Option Entry) (b : Option Bounds) → level ≡ level_of m (s.nodes - 1) → was ≡ place_of m (s.nodes - 1) i → now' ≡ renumbered s nothing level was → b ≡ box_of now' → b ≡ get_or (root_boxes m) i None
 root_box_at m s e level i was now' b p q r t =
     t ∙ ap box_of (r ∙ ap (λ (z : Sizes). renumbered z nothing level was) e
     ∙ ap (λ v. renumbered (sizes_of m) nothing v was) (p ∙ ap (λ (z : Sizes). level_of m (z.nodes - 1)) e)

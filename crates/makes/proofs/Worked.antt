@@ -1,8 +1,8 @@
 -- The definitions at work: strings of 17 and of 1,000 joints, and a join.
-use Rattle.std.proofs.Common.{◌≡◌, ℕ, [], ◌∷◌, ℤ, pos, negsuc, refl}
+use Rattle.std.proofs.Common.{◌≡◌, ℕ, [], ◌∷◌, ℤ, pos, negsuc, refl, Option}
 use Rattle.book.specs.Model.{Model, node_count, pick_limit, level_of, empty_book}
 use Rattle.book.specs.declared.kind.Kind.TheVariants.{CasingTop, Perforation, Marker}
-use Rattle.book.specs.declared.place.Place.{Place}
+use Rattle.book.specs.declared.place.Entry.{Entry}
 use Rattle.geometry.specs.Bounds.{bounds_at}
 use Rattle.geometry.specs.declared.bounds.Point.{Point}
 use Rattle.makes.specs.Join.{joined}
@@ -35,7 +35,7 @@ thousand_places : place_total thousand.nodes ≡ 1067
 unfolding by_sixteens
 thousand_places = refl
 
-abbrev at : ℕ → Point → Place
+abbrev at : ℕ → Point → Option Entry
 at pick p = place_for pick (bounds_at p p)
 
 abbrev below : ℤ → Point

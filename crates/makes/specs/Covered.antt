@@ -1,7 +1,6 @@
 -- Nodes and places of the tree by sixteens, from the number of picks alone.
 use Rattle.std.specs.Prelude.{ℕ, ◌+◌, ◌-◌, ◌<◌, ◌≤◌, cond, ◌&&◌, List, take, drop, Some, None, Option, ◌==◌, nat_le, nat_lt}
-use Rattle.book.specs.declared.place.Place.{Place}
-use Rattle.book.specs.declared.place.Place.TheVariants.{Spoilt}
+use Rattle.book.specs.declared.place.Entry.{Entry}
 use Rattle.geometry.specs.declared.bounds.Bounds.{Bounds}
 use Rattle.makes.specs.Places.{place_for}
 use Rattle.makes.specs.Sixteens.{group_count}
@@ -49,6 +48,6 @@ Within n (Some c) = (c.start < c.end) × (c.end ≤ n)
 Within n None = Unit {0}
 
 -- the place that stands for these picks: the smallest box around those that have one
-abbrev pub covered_place : List (Option Bounds) → Option Covered → Place
+abbrev pub covered_place : List (Option Bounds) → Option Covered → Option Entry
 covered_place boxes (Some c) = place_for c.target (smallest (take (c.end - c.start) (drop c.start boxes)))
-covered_place boxes None = Spoilt
+covered_place boxes None = None

@@ -4,8 +4,7 @@ use Rattle.std.proofs.Common.{⊎_elim, sym, ◌∙◌, ap, subst, zero-add, suc
 use Rattle.std.proofs.lemmas.List.{get_or_past, get_or-drop, drop-drop, take_all}
 use Rattle.std.proofs.lemmas.Bool.{cases_lt, cond_both, ltb-true, ltb-false, eqb-true}
 use Rattle.book.specs.Model.{Node, no_node}
-use Rattle.book.specs.declared.place.Place.{Place}
-use Rattle.book.specs.declared.place.Place.TheVariants.{Spoilt}
+use Rattle.book.specs.declared.place.Entry.{Entry}
 use Rattle.geometry.specs.declared.bounds.Bounds.{Bounds}
 use Rattle.makes.specs.Places.{place_for}
 use Rattle.makes.specs.Smallest.{around_both, smallest}
@@ -160,8 +159,8 @@ module _ (n node : ℕ) (bs : List (Option Bounds)) (e : length bs ≡ n) (most 
   pub count_none : None ≡ row_of n node → 0 ≡ length (places_at (by_sixteens bs) node)
   count_none p = sym (ap length (places_none p))
 
-  pub place_none : (i : ℕ) → None ≡ row_of n node → Spoilt ≡ place_at (by_sixteens bs) node i
-  place_none i p = sym (ap (λ (ps : List Place). get_or ps i Spoilt) (places_none p))
+  pub place_none : (i : ℕ) → None ≡ row_of n node → None ≡ place_at (by_sixteens bs) node i
+  place_none i p = sym (ap (λ (ps : List (Option Entry)). get_or ps i None) (places_none p))
 
   module _ (r : Row) (p : Some r ≡ row_of n node) (some : 0 < n) where
     pub facts : RowAt n node r
@@ -180,16 +179,16 @@ module _ (n node : ℕ) (bs : List (Option Bounds)) (e : length bs ≡ n) (most 
 
     pub place_at_lem : (i : ℕ) → i < 16 → place_at (by_sixteens bs) node i ≡ place_for (r.target + (16 * (node - r.first) + i)) (slice_index_or (at_level r.level bs) (16 * (node - r.first) + i) None)
     place_at_lem i h =
-        ap (λ (ps : List Place). get_or ps i Spoilt) places_some
-        ∙ group_at (named r.target (at_level r.level bs)) (node - r.first) i Spoilt h
+        ap (λ (ps : List (Option Entry)). get_or ps i None) places_some
+        ∙ group_at (named r.target (at_level r.level bs)) (node - r.first) i None h
         ∙ named_at r.target (at_level r.level bs) (16 * (node - r.first) + i)
 
-    pub place_wide : (i : ℕ) → 16 ≤ i → Spoilt ≡ place_at (by_sixteens bs) node i
+    pub place_wide : (i : ℕ) → 16 ≤ i → None ≡ place_at (by_sixteens bs) node i
     place_wide i h =
-        sym (ap (λ (ps : List Place). get_or ps i Spoilt) places_some
-        ∙ group_past (named r.target (at_level r.level bs)) (node - r.first) i Spoilt h)
+        sym (ap (λ (ps : List (Option Entry)). get_or ps i None) places_some
+        ∙ group_past (named r.target (at_level r.level bs)) (node - r.first) i None h)
 
-    pub place_past : (i : ℕ) → i < 16 → r.places ≤ 16 * (node - r.first) + i → Spoilt ≡ place_at (by_sixteens bs) node i
+    pub place_past : (i : ℕ) → i < 16 → r.places ≤ 16 * (node - r.first) + i → None ≡ place_at (by_sixteens bs) node i
     place_past i h past =
         let q = 16 * (node - r.first) + i in
         sym (place_at_lem i h ∙ ap (place_for (r.target + q)) (get_or_past (at_level r.level bs) q None (omega (arith, facts.many bs e))))

@@ -5,8 +5,7 @@ use Rattle.std.proofs.lemmas.List.FromFn.{length-map-range_with_len, get_or-map-
 use Rattle.std.proofs.lemmas.List.{get_or_past, get_or-take, get_or-drop, get_or-map, drop_all, length-map}
 use Rattle.std.proofs.lemmas.Bool.{cases_lt}
 use Rattle.book.specs.Model.{no_node}
-use Rattle.book.specs.declared.place.Place.{Place}
-use Rattle.book.specs.declared.place.Place.TheVariants.{Spoilt}
+use Rattle.book.specs.declared.place.Entry.{Entry}
 use Rattle.geometry.specs.declared.bounds.Bounds.{Bounds}
 use Rattle.makes.specs.Places.{place_for}
 use Rattle.makes.specs.Sixteens.{named, group_count, group, groups, node_with, row}
@@ -16,7 +15,7 @@ pub named_length : (t : ℕ) (bs : List (Option Bounds)) → length (named t bs)
 named_length t [] = refl
 named_length t (b ∷ bs) = ap suc (named_length (t + 1) bs)
 
-pub named_at : (t : ℕ) (bs : List (Option Bounds)) (j : ℕ) → slice_index_or (named t bs) j Spoilt ≡ place_for (t + j) (slice_index_or bs j None)
+pub named_at : (t : ℕ) (bs : List (Option Bounds)) (j : ℕ) → slice_index_or (named t bs) j None ≡ place_for (t + j) (slice_index_or bs j None)
 named_at t [] j = refl
 named_at t (b ∷ bs) zero = ap (λ k. place_for k b) (sym (add-zero t))
 named_at t (b ∷ bs) (suc j) =
@@ -46,10 +45,10 @@ group_none xs k h = ap (take 16) (drop_all (16 * k) xs h)
 pub groups_length : {A : Type 0} (xs : List A) → length (groups xs) ≡ group_count (length xs)
 groups_length xs = length-map-range_with_len (group xs) 0 (group_count (length xs))
 
-pub row_length : (v : ℕ) (ps : List Place) → length (row v ps) ≡ group_count (length ps)
+pub row_length : (v : ℕ) (ps : List (Option Entry)) → length (row v ps) ≡ group_count (length ps)
 row_length v ps = length-map (groups ps) (node_with v) ∙ groups_length ps
 
-pub row_at : (v : ℕ) (ps : List Place) (k : ℕ) → k < group_count (length ps) → slice_index_or (row v ps) k no_node ≡ node_with v (group ps k)
+pub row_at : (v : ℕ) (ps : List (Option Entry)) (k : ℕ) → k < group_count (length ps) → slice_index_or (row v ps) k no_node ≡ node_with v (group ps k)
 row_at v ps k h =
     let long : k < length (groups ps) = omega (arith, groups_length ps) in
     get_or-map (node_with v) (groups ps) k [] no_node long

@@ -1,9 +1,8 @@
 -- Two books in one: the left nodes, the right nodes, and a root above both.
-use Rattle.std.specs.Prelude.{ℕ, ◌+◌, ◌-◌, Bool, cond, not, ◌||◌, List, [], ◌∷◌, ◌++◌, map, length, Ok, Err, Option, Result, ◌==◌, nat_lt}
+use Rattle.std.specs.Prelude.{ℕ, ◌+◌, ◌-◌, Bool, cond, not, ◌||◌, List, [], ◌∷◌, ◌++◌, map, length, Ok, Err, Option, Result, ◌==◌, nat_lt, Some, None}
 use Rattle.refusal.specs.Told.{Told, plain}
 use Rattle.book.specs.Model.{Node, Model, node_count, pick_limit, node_of, empty_book}
-use Rattle.book.specs.declared.place.Place.{Place}
-use Rattle.book.specs.declared.place.Place.TheVariants.{Filled, Spoilt}
+use Rattle.book.specs.declared.place.Entry.{Entry}
 use Rattle.geometry.specs.declared.bounds.Bounds.{Bounds}
 use Rattle.makes.specs.Places.{place_for}
 use Rattle.makes.specs.Smallest.{smallest, box_of}
@@ -21,12 +20,12 @@ abbrev pub count_at : Sizes → ℕ → ℕ
 count_at s level = cond (level == 0) s.picks s.nodes
 
 -- a place of a book of its own sizes, behind what stands before it; a target outside its own book is lost
-abbrev pub renumbered : Sizes → Sizes → ℕ → Place → Place
-renumbered own before level (Filled e) =
+abbrev pub renumbered : Sizes → Sizes → ℕ → Option Entry → Option Entry
+renumbered own before level (Some e) =
     cond (nat_lt e.target (count_at own level))
-    (Filled (record { bounds = e.bounds; target = count_at before level + e.target }))
-    Spoilt
-renumbered own before level Spoilt = Spoilt
+    (Some (record { bounds = e.bounds; target = count_at before level + e.target }))
+    None
+renumbered own before level None = None
 
 abbrev pub renumbered_node : Sizes → Sizes → Node → Node
 renumbered_node own before n =

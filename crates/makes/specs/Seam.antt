@@ -4,8 +4,7 @@ use Rattle.std.specs.List.{range_with_len}
 use Rattle.book.specs.Model.{Node, Model, no_node, node_of, kind_of, empty_book}
 use Rattle.book.specs.declared.kind.Kind.{Kind}
 use Rattle.book.specs.declared.kind.Kind.TheVariants.{Marker}
-use Rattle.book.specs.declared.place.Place.{Place}
-use Rattle.book.specs.declared.place.Place.TheVariants.{Spoilt}
+use Rattle.book.specs.declared.place.Entry.{Entry}
 use Rattle.makes.specs.Join.{nothing, renumbered_node}
 use Rattle.makes.specs.Places.{place_for}
 use Rattle.makes.specs.declared.seam.Seam.{Seam}
@@ -20,12 +19,12 @@ part_of s n =
     (cond (n - s.left.nodes == s.right.nodes) Root Outside))
 
 -- the new root's two places, and nothing past them
-abbrev pub root_places : Seam → List Place
+abbrev pub root_places : Seam → List (Option Entry)
 root_places s =
     place_for (s.left.nodes - 1) s.left_box ∷ place_for (s.left.nodes + s.right.nodes - 1) s.right_box ∷ []
 
-abbrev pub root_place : Seam → ℕ → Place
-root_place s i = slice_index_or (root_places s) i Spoilt
+abbrev pub root_place : Seam → ℕ → Option Entry
+root_place s i = slice_index_or (root_places s) i None
 
 abbrev pub seam_root : Seam → Node
 seam_root s =

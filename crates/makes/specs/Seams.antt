@@ -11,8 +11,6 @@ use Rattle.book.specs.Model.{Node, Model, BookShape, no_node, node_of, node_coun
 use Rattle.book.specs.declared.kind.Kind.{Kind}
 use Rattle.book.specs.declared.kind.Kind.TheVariants.{Marker}
 use Rattle.book.specs.declared.place.Entry.{Entry}
-use Rattle.book.specs.declared.place.Place.{Place}
-use Rattle.book.specs.declared.place.Place.TheVariants.{Filled, Spoilt}
 use Rattle.makes.specs.Join.{nothing, count_at, renumbered, renumbered_node}
 use Rattle.makes.specs.Seam.{part_of, part_node, seam_root, known, along}
 use Rattle.makes.specs.declared.seam.Sizes.{Sizes}
@@ -138,10 +136,10 @@ module _ (held : Option Seam) (l r : Model) where
 pub renumbered_count : (own before : Sizes) (n : Node) → length (renumbered_node own before n).places ≡ length n.places
 renumbered_count own before n = length-map n.places (renumbered own before n.level)
 
-pub renumbered_at : (own before : Sizes) (m : Model) (n i level : ℕ) (was became : Place) → became ≡ renumbered own before level was → level ≡ level_of m n → was ≡ place_of m n i → became ≡ slice_index_or (renumbered_node own before (node_of m n)).places i Spoilt
+pub renumbered_at : (own before : Sizes) (m : Model) (n i level : ℕ) (was became : Option Entry) → became ≡ renumbered own before level was → level ≡ level_of m n → was ≡ place_of m n i → became ≡ slice_index_or (renumbered_node own before (node_of m n)).places i None
 renumbered_at own before m n i level was became e p q =
     e ∙ ap (λ v. renumbered own before v was) p ∙ ap (renumbered own before (level_of m n)) q
-    ∙ sym (ListN.get_or-map (renumbered own before (level_of m n)) (node_of m n).places i Spoilt)
+    ∙ sym (ListN.get_or-map (renumbered own before (level_of m n)) (node_of m n).places i None)
 
 -- each question at a node of the seam, from the node it comes from
 places_at_lem : (held : Option Seam) (l r : Model) (n : ℕ) (node : Node) → node_of (along held l r) n ≡ node → place_count (along held l r) n ≡ length node.places
@@ -161,18 +159,18 @@ module _ (s : Seam) (l r : Model) (p : BookShape l) (q : BookShape r) where
   few_part Outside = omega arith
 
 -- a renumbered target is below what stands before and what it could name
-target_renumbered : (own before : Sizes) (level most : ℕ) → count_at before level + count_at own level ≤ most → (was : Place) (e : Entry) → renumbered own before level was ≡ Filled e → e.target < most
-target_renumbered own before level most h (Filled f) e t =
+target_renumbered : (own before : Sizes) (level most : ℕ) → count_at before level + count_at own level ≤ most → (was : Option Entry) (e : Entry) → renumbered own before level was ≡ Some e → e.target < most
+target_renumbered own before level most h (Some f) e t =
     ⊎_elim
     (λ (y : ltb f.target (count_at own level) ≡ true).
-    let made : Filled (record { bounds = f.bounds; target = count_at before level + f.target }) ≡ Filled e = sym (cond-true _ _ _ y) ∙ t in
+    let made : Some (record { bounds = f.bounds; target = count_at before level + f.target }) ≡ Some e = sym (cond-true _ _ _ y) ∙ t in
     let same : count_at before level + f.target ≡ e.target = cc in
     omega (arith, ltb-true f.target (count_at own level) y, same))
     (λ (y : ltb f.target (count_at own level) ≡ false).
-    let none : Spoilt ≡ Filled e = sym (cond-false _ _ _ y) ∙ t in
+    let none : None ≡ Some e = sym (cond-false _ _ _ y) ∙ t in
     let z : ◌≡◌ {A = ℕ} 0 1 = cc in absurd (omega arith))
     (cases_Bool (nat_lt f.target (count_at own level)))
-target_renumbered own before level most h Spoilt e t = let z : ◌≡◌ {A = ℕ} 0 1 = cc in absurd (omega arith)
+target_renumbered own before level most h None e t = let z : ◌≡◌ {A = ℕ} 0 1 = cc in absurd (omega arith)
 
 count_most : (z : Sizes) (level : ℕ) → z.picks ≤ 2048 → z.nodes ≤ 512 → count_at z level ≤ 2048
 count_most z level p n =
@@ -180,17 +178,17 @@ count_most z level p n =
     cond_both (level == 0) z.picks z.nodes P (λ e. p) (λ e. omega arith)
 
 module _ (s : Seam) (l r : Model) where
-  target_part : (x : Part) (i : ℕ) (e : Entry) → slice_index_or (part_node s l r x).places i Spoilt ≡ Filled e → e.target < 65536
+  target_part : (x : Part) (i : ℕ) (e : Entry) → slice_index_or (part_node s l r x).places i None ≡ Some e → e.target < 65536
   target_part (Left k) i e t =
       let level = level_of l k in
       target_renumbered s.left nothing level 65536
       (omega (arith, count_most nothing level (omega arith) (omega arith), count_most s.left level (omega (arith, s.picks)) (omega (arith, s.nodes))))
-      (place_of l k i) e (sym (ListN.get_or-map (renumbered s.left nothing level) (node_of l k).places i Spoilt) ∙ t)
+      (place_of l k i) e (sym (ListN.get_or-map (renumbered s.left nothing level) (node_of l k).places i None) ∙ t)
   target_part (Right k) i e t =
       let level = level_of r k in
       target_renumbered s.right s.left level 65536
       (omega (arith, count_most s.right level (omega (arith, s.picks)) (omega (arith, s.nodes)), count_most s.left level (omega (arith, s.picks)) (omega (arith, s.nodes))))
-      (place_of r k i) e (sym (ListN.get_or-map (renumbered s.right s.left level) (node_of r k).places i Spoilt) ∙ t)
+      (place_of r k i) e (sym (ListN.get_or-map (renumbered s.right s.left level) (node_of r k).places i None) ∙ t)
   target_part Root zero e t = target_named (s.left.nodes - 1) 65536 s.left_box e (omega (arith, s.nodes)) t
   target_part Root (suc zero) e t = target_named (s.left.nodes + s.right.nodes - 1) 65536 s.right_box e (omega (arith, s.nodes)) t
   target_part Root (suc (suc i)) e t = let z : ◌≡◌ {A = ℕ} 0 1 = cc in absurd (omega arith)
@@ -202,7 +200,7 @@ shape_empty =
     (λ n. omega (arith, ap (λ (k : Node). k.level) (empty_node n)))
     (λ n. omega (arith, ap (λ (k : Node). length k.places) (empty_node n)))
     (λ n i e t.
-    let none : Spoilt ≡ Filled e = sym (ap (λ (k : Node). get_or k.places i Spoilt) (empty_node n)) ∙ t in
+    let none : None ≡ Some e = sym (ap (λ (k : Node). get_or k.places i None) (empty_node n)) ∙ t in
     let z : ◌≡◌ {A = ℕ} 0 1 = cc in absurd (omega arith))
 
 -- a joined book has a book's shape, by what the join keeps
@@ -215,5 +213,5 @@ shape_along (Some s) l r p q =
     (omega (arith, seam_picks s l r, s.picks))
     (λ n. omega (arith, ap (λ (k : Node). k.level) (part_node_lem s l r n), low_part s l r p q (part_of s n)))
     (λ n. omega (arith, ap (λ (k : Node). length k.places) (part_node_lem s l r n), few_part s l r p q (part_of s n)))
-    (λ n i e t. target_part s l r (part_of s n) i e (sym (ap (λ (k : Node). get_or k.places i Spoilt) (part_node_lem s l r n)) ∙ t))
+    (λ n i e t. target_part s l r (part_of s n) i e (sym (ap (λ (k : Node). get_or k.places i None) (part_node_lem s l r n)) ∙ t))
 shape_along None l r p q = shape_empty

@@ -5,16 +5,14 @@ use Rattle.book.specs.Model.{Model, BookShape, node_count, pick_limit, level_of,
 use Rattle.geometry.specs.declared.bounds.Bounds.{Bounds}
 use Rattle.makes.specs.Places.{place_for}
 use Rattle.book.specs.declared.place.Entry.{Entry}
-use Rattle.book.specs.declared.place.Place.{Place}
-use Rattle.book.specs.declared.place.Place.TheVariants.{Filled, Spoilt}
 
 -- a place is filled or spoilt
-pub by_place : {P : Type 0} (p : Place) → ((e : Entry) → p ≡ Filled e → P) → (p ≡ Spoilt → P) → P
-by_place (Filled e) filled spoilt = filled e refl
-by_place Spoilt filled spoilt = spoilt refl
+pub by_place : {P : Type 0} (p : Option Entry) → ((e : Entry) → p ≡ Some e → P) → (p ≡ None → P) → P
+by_place (Some e) filled spoilt = filled e refl
+by_place None filled spoilt = spoilt refl
 
 abbrev pub TargetsFit : Model → Type 0
-TargetsFit m = (n i : ℕ) (e : Entry) → place_of m n i ≡ Filled e → e.target < 65536
+TargetsFit m = (n i : ℕ) (e : Entry) → place_of m n i ≡ Some e → e.target < 65536
 
 pub targets_of : (m : Model) → BookShape m → TargetsFit m
 targets_of m s n i e p = rw p at (s.targets_fit n i)
@@ -31,9 +29,9 @@ shape_by m some nodes picks levels places targets =
     }
 
 -- a spoilt place is not filled
-pub never : {P : Type 0} {e : Entry} → Spoilt ≡ Filled e → P
+pub never : {P : Type 0} {e : Entry} → None ≡ Some e → P
 never e = let z : ◌≡◌ {A = ℕ} 0 1 = cc in absurd (omega arith)
 
-pub target_named : (target most : ℕ) (b : Option Bounds) (e : Entry) → target < most → place_for target b ≡ Filled e → e.target < most
+pub target_named : (target most : ℕ) (b : Option Bounds) (e : Entry) → target < most → place_for target b ≡ Some e → e.target < most
 target_named target most (Some b) e h t = let same : target ≡ e.target = cc in omega (arith, same)
 target_named target most None e h t = let z : ◌≡◌ {A = ℕ} 0 1 = cc in absurd (omega arith)

@@ -6,7 +6,6 @@ use Rattle.std.proofs.lemmas.Bool.{cases_lt, cond_both, cond-true, cond-false, a
 use Rattle.book.specs.Model.{BookShape}
 use Rattle.book.specs.declared.kind.Kind.{Kind}
 use Rattle.book.specs.declared.place.Entry.{Entry}
-use Rattle.book.specs.declared.place.Place.TheVariants.{Filled}
 use Rattle.geometry.specs.declared.bounds.Bounds.{Bounds}
 use Rattle.geometry.proofs.Boxes.{by_option}
 use Rattle.makes.specs.Places.{place_for}
@@ -47,7 +46,7 @@ module _ (bs : List (Option Bounds)) (some : 0 < length bs) (most : length bs �
       (λ p. omega (arith, count_none (length bs) node bs refl most (sym p)))
       (λ r p. omega (arith, count_some (length bs) node bs refl most r (sym p) some))
 
-  near_target : (node i : ℕ) (r : Row) → Some r ≡ row_of (length bs) node → i < 16 → (e : Entry) → place_at (by_sixteens bs) node i ≡ Filled e → e.target < 65536
+  near_target : (node i : ℕ) (r : Row) → Some r ≡ row_of (length bs) node → i < 16 → (e : Entry) → place_at (by_sixteens bs) node i ≡ Some e → e.target < 65536
   near_target node i r p low e t =
       let f = facts (length bs) node bs refl most r p some in
       let q = 16 * (node - r.first) + i in
@@ -59,7 +58,7 @@ module _ (bs : List (Option Bounds)) (some : 0 < length bs) (most : length bs �
       never (sym (here ∙ ap (place_for (r.target + q)) none) ∙ t))
       (cases_lt q r.places)
 
-  near_targets : (node i : ℕ) (e : Entry) → place_at (by_sixteens bs) node i ≡ Filled e → e.target < 65536
+  near_targets : (node i : ℕ) (e : Entry) → place_at (by_sixteens bs) node i ≡ Some e → e.target < 65536
   near_targets node i e t =
       by_option (row_of (length bs) node)
       (λ p. never (place_none (length bs) node bs refl most i (sym p) ∙ t))

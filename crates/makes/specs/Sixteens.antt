@@ -2,14 +2,13 @@
 use Rattle.std.specs.Prelude.{◌≡◌, ℕ, zero, suc, ◌+◌, ◌*◌, ◌/◌, ◌%◌, ◌<◌, cond, List, [], ◌∷◌, ◌++◌, map, length, get_or, take, drop, None, sum_by, Option, nat_le, slice_index_or}
 use Rattle.std.specs.List.{range_with_len}
 use Rattle.book.specs.Model.{Node, no_node}
-use Rattle.book.specs.declared.place.Place.{Place}
-use Rattle.book.specs.declared.place.Place.TheVariants.{Spoilt}
+use Rattle.book.specs.declared.place.Entry.{Entry}
 use Rattle.geometry.specs.declared.bounds.Bounds.{Bounds}
 use Rattle.makes.specs.Places.{place_for}
 use Rattle.makes.specs.Smallest.{smallest, box_of}
 
 -- places that name their targets in order, from this one on
-abbrev pub named : ℕ → List (Option Bounds) → List Place
+abbrev pub named : ℕ → List (Option Bounds) → List (Option Entry)
 named target [] = []
 named target (b ∷ bs) = place_for target b ∷ named (target + 1) bs
 
@@ -24,11 +23,11 @@ group xs k = take 16 (drop (16 * k) xs)
 abbrev pub groups : {A : Type 0} → List A → List (List A)
 groups xs = map (group xs) (range_with_len 0 (group_count (length xs)))
 
-abbrev pub node_with : ℕ → List Place → Node
+abbrev pub node_with : ℕ → List (Option Entry) → Node
 node_with level places = record { level = level; places = places }
 
 -- the nodes of one level
-abbrev pub row : ℕ → List Place → List Node
+abbrev pub row : ℕ → List (Option Entry) → List Node
 row level places = map (node_with level) (groups places)
 
 -- this row of nodes and the rows above it, until one node is left; the row's first place names `target`, and its first
@@ -48,11 +47,11 @@ by_sixteens boxes = rows 8 0 0 0 boxes
 abbrev pub level_at : List Node → ℕ → ℕ
 level_at ns n = (get_or ns n no_node).level
 
-abbrev pub places_at : List Node → ℕ → List Place
+abbrev pub places_at : List Node → ℕ → List (Option Entry)
 places_at ns n = (get_or ns n no_node).places
 
-abbrev pub place_at : List Node → ℕ → ℕ → Place
-place_at ns n i = slice_index_or (places_at ns n) i Spoilt
+abbrev pub place_at : List Node → ℕ → ℕ → Option Entry
+place_at ns n i = slice_index_or (places_at ns n) i None
 
 abbrev pub place_total : List Node → ℕ
 place_total ns = sum_by (λ n. length n.places) ns

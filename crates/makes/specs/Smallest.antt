@@ -1,8 +1,7 @@
 -- The smallest box around those that there are.
 use Rattle.std.specs.Prelude.{◌≡◌, List, [], ◌∷◌, Some, None, Option}
 use Rattle.std.specs.List.{AllByRecursion}
-use Rattle.book.specs.declared.place.Place.{Place}
-use Rattle.book.specs.declared.place.Place.TheVariants.{Filled, Spoilt}
+use Rattle.book.specs.declared.place.Entry.{Entry}
 use Rattle.geometry.specs.Around.{bounds_around}
 use Rattle.geometry.specs.Within.{Within}
 use Rattle.geometry.specs.declared.bounds.Bounds.{Bounds}
@@ -18,9 +17,9 @@ abbrev pub smallest : List (Option Bounds) → Option Bounds
 smallest [] = None
 smallest (b ∷ bs) = around_both b (smallest bs)
 
-abbrev pub box_of : Place → Option Bounds
-box_of (Filled e) = Some e.bounds
-box_of Spoilt = None
+abbrev pub box_of : Option Entry → Option Bounds
+box_of (Some e) = Some e.bounds
+box_of None = None
 
 abbrev pub LiesIn : Bounds → Option Bounds → Type 0
 LiesIn c (Some b) = Within b c

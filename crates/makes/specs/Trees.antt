@@ -9,8 +9,7 @@ use Rattle.std.proofs.lemmas.List.{take-map, drop-map}
 use Rattle.std.proofs.lemmas.List.Sums.{sum_by-cons, sum_by-append}
 use Rattle.std.proofs.lemmas.Bool.{cases_lt, cond-true, cond-false, le-leb, lt-leb}
 use Rattle.book.specs.Model.{Node, no_node}
-use Rattle.book.specs.declared.place.Place.{Place}
-use Rattle.book.specs.declared.place.Place.TheVariants.{Spoilt}
+use Rattle.book.specs.declared.place.Entry.{Entry}
 use Rattle.geometry.specs.declared.bounds.Bounds.{Bounds}
 use Rattle.makes.specs.Places.{place_for}
 use Rattle.makes.specs.Smallest.{smallest, box_of}
@@ -27,14 +26,14 @@ groups_total xs (suc k) =
     ∙ more
     ∙ omega (arith, groups_total xs k, group_length xs k)
 
-nodes_total : (v : ℕ) (gs : List (List Place)) → place_total (map (node_with v) gs) ≡ sum_by length gs
+nodes_total : (v : ℕ) (gs : List (List (Option Entry))) → place_total (map (node_with v) gs) ≡ sum_by length gs
 nodes_total v [] = refl
 nodes_total v (x ∷ gs) =
     sum_by-cons (λ (n : Node). length n.places) (node_with v x) (map (node_with v) gs)
     ∙ ap (λ k. length x + k) (nodes_total v gs)
     ∙ sym (sum_by-cons length x gs)
 
-row_total : (v : ℕ) (ps : List Place) → place_total (row v ps) ≡ length ps
+row_total : (v : ℕ) (ps : List (Option Entry)) → place_total (row v ps) ≡ length ps
 row_total v ps = nodes_total v (groups ps) ∙ groups_total ps (group_count (length ps)) ∙ omega arith
 
 module _ (more v t f : ℕ) (bs : List (Option Bounds)) where
@@ -128,9 +127,9 @@ module _ (bs : List (Option Bounds)) (some : 0 < length bs) (most : length bs �
   seat_by : (j : ℕ) → j < n → place_at (by_sixteens bs) (j / 16) (j % 16) ≡ place_for j (slice_index_or bs j None)
   seat_by j h =
       let back : 16 * (j / 16 - 0) + j % 16 ≡ j = omega arith in
-      ap (λ (k : Node). get_or k.places (j % 16) Spoilt) (leaf_node bs (j / 16) (omega arith))
-      ∙ group_at (named 0 bs) (j / 16 - 0) (j % 16) Spoilt (omega arith)
-      ∙ ap (λ k. get_or (named 0 bs) k Spoilt) back
+      ap (λ (k : Node). get_or k.places (j % 16) None) (leaf_node bs (j / 16) (omega arith))
+      ∙ group_at (named 0 bs) (j / 16 - 0) (j % 16) None (omega arith)
+      ∙ ap (λ k. get_or (named 0 bs) k None) back
       ∙ named_at 0 bs j
       ∙ ap (λ k. place_for k (slice_index_or bs j None)) (zero-add j)
 
@@ -151,8 +150,8 @@ names_group ns node child v t t' k i xs here inside number there =
       child = child;
       lower = ap (λ (x : Node). x.level + 1) there ∙ sym (ap (λ (x : Node). x.level) here);
       by_smallest =
-          ap (λ (x : Node). get_or x.places i Spoilt) here
-          ∙ group_at (named t (above xs)) k i Spoilt low
+          ap (λ (x : Node). get_or x.places i None) here
+          ∙ group_at (named t (above xs)) k i None low
           ∙ named_at t (above xs) q
           ∙ ap (place_for (t + q)) (above_at xs q ∙ ap smallest (sym (group_boxes t' xs q)))
           ∙ ap (λ c. place_for c (smallest (map box_of (group (named t' xs) q)))) number

@@ -12,7 +12,7 @@ use crate::seam::{Part, Seam, Sizes};
 use crate::smallest::{around_both, box_of};
 use book::book::Book;
 use book::kind::Kind;
-use book::place::Place;
+use book::place::Entry;
 use geometry::bounds::Bounds;
 use refusal::hands::JoinFault;
 
@@ -168,9 +168,9 @@ impl<L: Book, R: Book> Book for Join<L, R> {
         }
     }
 
-    fn place(&self, node: u16, index: u8) -> Place {
+    fn place(&self, node: u16, index: u8) -> Option<Entry> {
         let Some(seam) = self.seam else {
-            return Place::Spoilt;
+            return None;
         };
         match seam.part(node) {
             Part::Left(k) => seam.left.renumbered(
@@ -184,7 +184,7 @@ impl<L: Book, R: Book> Book for Join<L, R> {
                 self.right.place(k, index),
             ),
             Part::Root => seam.root_place(index),
-            Part::Outside => Place::Spoilt,
+            Part::Outside => None,
         }
     }
 

@@ -7,7 +7,7 @@ ghost use Rattle.makes.specs.Shifts.{shape_shift};
 use crate::offset::Offset;
 use book::book::Book;
 use book::kind::Kind;
-use book::place::{Entry, Place};
+use book::place::Entry;
 
 /// A book over another. A box that would leave the range is lost: its place is spoilt.
 #[derive(Drop)]
@@ -16,18 +16,18 @@ pub struct Shift<B> {
     offset: Offset,
 }
 
-fn moved_place(place: Place, offset: &Offset) -> Place
+fn moved_place(place: Option<Entry>, offset: &Offset) -> Option<Entry>
     ensures { result ≡ shifted_place offset.now.by place }
 {
-    let Place::Filled(entry) = place else {
-        return Place::Spoilt;
+    let Some(entry) = place else {
+        return None;
     };
     match entry.bounds.moved(offset.by) {
-        Some(bounds) => Place::Filled(Entry {
+        Some(bounds) => Some(Entry {
             bounds,
             target: entry.target,
         }),
-        None => Place::Spoilt,
+        None => None,
     }
 }
 
@@ -69,7 +69,7 @@ impl<B: Book> Book for Shift<B> {
         self.book.place_count(node)
     }
 
-    fn place(&self, node: u16, index: u8) -> Place {
+    fn place(&self, node: u16, index: u8) -> Option<Entry> {
         moved_place(self.book.place(node, index), &self.offset)
     }
 

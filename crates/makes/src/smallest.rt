@@ -3,7 +3,7 @@
 ghost use Rattle.std.specs.Prelude.{◌≡◌};
 ghost use Rattle.makes.specs.Smallest.{around_both, box_of};
 
-use book::place::Place;
+use book::place::Entry;
 use geometry::bounds::Bounds;
 
 /// The smallest box around two that may be missing.
@@ -20,11 +20,11 @@ pub(crate) fn around_both(one: Option<Bounds>, other: Option<Bounds>) -> Option<
 }
 
 /// The box of a place, if it has one.
-pub(crate) fn box_of(place: Place) -> Option<Bounds>
+pub(crate) fn box_of(place: Option<Entry>) -> Option<Bounds>
     ensures { result ≡ box_of place }
 {
     match place {
-        Place::Filled(entry) => Some(entry.bounds),
-        Place::Spoilt => None,
+        Some(entry) => Some(entry.bounds),
+        None => None,
     }
 }

@@ -5,7 +5,7 @@ use crate::offset::Offset;
 use crate::shift::Shift;
 use crate::tally::Tally;
 use book::book::Book;
-use book::place::{Entry, Place};
+use book::place::Entry;
 use book::totals::total_places;
 use geometry::bounds::Point;
 use refusal::hands::TypingFault;
@@ -13,8 +13,8 @@ use std::test::Fail;
 
 fn entry<B: Book>(book: &B, node: u16, index: u8) -> Result<Entry, Fail> {
     match book.place(node, index) {
-        Place::Filled(entry) => Ok(entry),
-        Place::Spoilt => Err(Fail::new("spoilt")),
+        Some(entry) => Ok(entry),
+        None => Err(Fail::new("spoilt")),
     }
 }
 

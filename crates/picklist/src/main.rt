@@ -8,7 +8,6 @@ mod paper;
 use crate::paper::{book_line, pick_line};
 use anyhow::anyhow;
 use book::book::Book;
-use book::place::Place;
 use file::write_out::write_out;
 use geometry::bounds::Point;
 use loaded::loaded::Loaded;
@@ -25,11 +24,11 @@ const LONGEST: usize = 57_350;
 fn print_leaf(rt: &HostRuntime, book: &Loaded, node: u16) -> anyhow::Result<()> {
     for index in 0..book.place_count(node) {
         match book.place(node, index) {
-            Place::Filled(entry) => {
+            Some(entry) => {
                 let line = pick_line(rt.alloc(), &entry, book.kind(entry.target))?;
                 println!(rt; "{line}")?;
             }
-            Place::Spoilt => println!(rt; "spoilt")?,
+            None => println!(rt; "spoilt")?,
         }
     }
     Ok(())

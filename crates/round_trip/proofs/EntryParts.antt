@@ -1,5 +1,5 @@
 -- Entry records.
-use Rattle.std.proofs.Common.{◌≡◌, ℕ, zero, suc, ◌+◌, ◌*◌, ◌/◌, ◌%◌, ◌<◌, ◌≤◌, List, [], ◌∷◌, ◌++◌, length, get_or, take, drop, sym, refl, ap, ◌∙◌, arith, length-drop, length-take, w32, to_z}
+use Rattle.std.proofs.Common.{◌≡◌, ℕ, zero, suc, ◌+◌, ◌*◌, ◌/◌, ◌%◌, ◌<◌, ◌≤◌, List, [], ◌∷◌, ◌++◌, length, get_or, take, drop, sym, refl, ap, ◌∙◌, arith, length-drop, length-take, w32, to_z, Some, None, Option}
 use Rattle.std.proofs.ByRecursion.{All-take, All-drop}
 use Rattle.std.proofs.lemmas.List.{get_or-drop, drop-drop, drop_at, take_all, take-append-drop, nil_from_length}
 use Rattle.std.proofs.lemmas.Int.{of_z-to_z}
@@ -8,8 +8,6 @@ use Rattle.geometry.proofs.Boxes.{by_option, bounds_at_lem, box_ends}
 use Rattle.geometry.specs.Bounds.{bounds_at}
 use Rattle.geometry.specs.declared.bounds.Point.{Point}
 use Rattle.book.specs.declared.place.Entry.{Entry}
-use Rattle.book.specs.declared.place.Place.{Place}
-use Rattle.book.specs.declared.place.Place.TheVariants.{Filled, Spoilt}
 use Rattle.file.specs.Encode.{bytes_of, le16, le32, twos_complement, point_bytes, low_ends, high_ends, entry_record, place_record, place_records}
 use Rattle.file.proofs.Back.{short_back, long_back, low_fits, high_fits}
 use Rattle.file.proofs.Bytes.{twos_complement_is}
@@ -19,12 +17,12 @@ use Rattle.loaded.specs.Reading.{short_at, long_at}
 use Rattle.round_trip.proofs.Flat.{IsFilled, Fits}
 use Rattle.round_trip.proofs.Parts.{Bytes, short_written, take_add}
 
-filled : (e : Entry) (low high : Point) (target : ℕ) → low ≡ low_ends e.bounds → high ≡ high_ends e.bounds → target ≡ e.target → place_with (bounds_at low high) target ≡ Filled e
+filled : (e : Entry) (low high : Point) (target : ℕ) → low ≡ low_ends e.bounds → high ≡ high_ends e.bounds → target ≡ e.target → place_with (bounds_at low high) target ≡ Some e
 filled e low high target is_low is-high is-target =
     (λ i. place_with (bounds_at (is_low i) (is-high i)) (is-target i))
     ∙ ap (λ b. place_with b e.target) (bounds_at_lem e.bounds)
 
-place_read : (e : Entry) (rest : List ℕ) → e.target < 65536 → place_from (take 26 (entry_record e ++ rest)) ≡ Filled e
+place_read : (e : Entry) (rest : List ℕ) → e.target < 65536 → place_from (take 26 (entry_record e ++ rest)) ≡ Some e
 unfolding bytes_of
 place_read e rest small =
     let b = e.bounds in
@@ -33,13 +31,13 @@ place_read e rest small =
     (λ i. record { easting = long_back b.easting.high [] (high_fits b.easting) i; northing = long_back b.northing.high [] (high_fits b.northing) i; level = long_back b.level.high [] (high_fits b.level) i })
     (short_back e.target [] small)
 
-pub places_read : (ps : List Place) → AllByRecursion IsFilled ps → AllByRecursion Fits ps → places_from (length ps) (place_records ps) ≡ ps
+pub places_read : (ps : List (Option Entry)) → AllByRecursion IsFilled ps → AllByRecursion Fits ps → places_from (length ps) (place_records ps) ≡ ps
 places_read [] f t = refl
-places_read (Filled e ∷ ps) f t =
+places_read (Some e ∷ ps) f t =
     let past : drop 26 (entry_record e ++ place_records ps) ≡ place_records ps = drop_at (entry_record e) (place_records ps) 26 (length_entry_record e) in
     let rest = ap (places_from (length ps)) past ∙ places_read ps f.1 t.1 in
     λ i. place_read e (place_records ps) t.0 i ∷ rest i
-places_read (Spoilt ∷ ps) f t = absurd f.0
+places_read (None ∷ ps) f t = absurd f.0
 
 -- a signed number's bytes are those it was read from
 long_written : (a b c d : ℕ) → a < 256 → b < 256 → c < 256 → d < 256 → le32 (to_z w32 (a + b * 256 + c * 65536 + d * 16777216)) ≡ a ∷ b ∷ c ∷ d ∷ []

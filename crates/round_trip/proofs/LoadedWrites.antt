@@ -1,5 +1,5 @@
 -- A file that loads without a spoilt place is what its book is written out as.
-use Rattle.std.proofs.Common.{◌≡◌, ℕ, ◌*◌, ◌≤◌, true, eqb, List, [], ◌∷◌, ◌++◌, map, length, None, Ok, sym, ap, ◌∙◌, arith}
+use Rattle.std.proofs.Common.{◌≡◌, ℕ, ◌*◌, ◌≤◌, true, eqb, List, [], ◌∷◌, ◌++◌, map, length, None, Ok, sym, ap, ◌∙◌, arith, Option}
 use Rattle.std.proofs.lemmas.List.{append_assoc, append-nil, length-map, take_all, nil_from_length}
 use Rattle.std.proofs.lemmas.Bool.{and_parts, eqb-true}
 use Rattle.std.specs.List.{AllByRecursion}
@@ -8,7 +8,7 @@ use Rattle.book.specs.Model.{Model}
 use Rattle.book.specs.Spoilt.{first_spoilt}
 use Rattle.book.specs.Totals.{total_places}
 use Rattle.book.specs.declared.kind.Kind.{Kind}
-use Rattle.book.specs.declared.place.Place.{Place}
+use Rattle.book.specs.declared.place.Entry.{Entry}
 use Rattle.file.specs.Encode.{le16, place_records, entry_records, pick_records, node_section, entry_section, encode}
 use Rattle.loaded.specs.declared.record.NodeRecord.{NodeRecord}
 use Rattle.loaded.specs.Reading.{read, count_in, records_in}
@@ -57,7 +57,7 @@ nodes_stood bytes rs rest small e =
     let is = read_inj lawful.1 in
     (counted.0, held.0, stood 4 1 512 bytes counted.0 counted.1 held.0 rest small counted.2 (held.2 ∙ ap (λ xs. Ok (read held.0 xs)) is.1), is.0, lawful.0)
 
-entries_stood : (places : ℕ) (bytes : List ℕ) (ps : List Place) (rest : List ℕ) → Bytes bytes → readEntries places bytes ≡ Ok (read ps rest) → (count : ℕ) × (records : List ℕ) × Stood 26 2048 bytes count records rest × (places_from count records ≡ ps) × (count ≡ places)
+entries_stood : (places : ℕ) (bytes : List ℕ) (ps : List (Option Entry)) (rest : List ℕ) → Bytes bytes → readEntries places bytes ≡ Ok (read ps rest) → (count : ℕ) × (records : List ℕ) × Stood 26 2048 bytes count records rest × (places_from count records ≡ ps) × (count ≡ places)
 unfolding readEntries
 entries_stood places bytes ps rest small e =
     let counted = after_ok (count_in 0 2048 bytes) _ (read ps rest) e in
@@ -76,7 +76,7 @@ picks_stood bytes ks rest small e =
     (counted.0, held.0, stood 1 0 2048 bytes counted.0 counted.1 held.0 rest small counted.2 (held.2 ∙ ap (λ xs. Ok (read held.0 xs)) is.1), is.0, lawful.0)
 
 -- the book of three tables, section by section
-module _ (rs : List NodeRecord) (ps : List Place) (lawful : lawful_nodes rs ≡ true) (total : length ps ≡ places_of_all rs) where
+module _ (rs : List NodeRecord) (ps : List (Option Entry)) (lawful : lawful_nodes rs ≡ true) (total : length ps ≡ places_of_all rs) where
   firsts : firsts_add_up 0 rs ≡ true
   firsts = (and_parts (within_limits rs) (firsts_add_up 0 rs) lawful).1
 
@@ -116,7 +116,7 @@ pub record Kept (bytes : List ℕ) (m : Model) : Type 0 where
   pub few : total_places m ≤ 2048
   pub same : first_spoilt m ≡ None → encode m ≡ bytes
 
-kept_book : {bytes past-nodes past-entries past-picks node-records entry-records pick-records : List ℕ} {n p k : ℕ} (rs : List NodeRecord) (ps : List Place) (ks : List Kind) → Stood 4 512 bytes n node-records past-nodes → nodes_from n node-records ≡ rs → lawful_nodes (nodes_from n node-records) ≡ true → Stood 26 2048 past-nodes p entry-records past-entries → places_from p entry-records ≡ ps → p ≡ places_of_all rs → Stood 1 2048 past-entries k pick-records past-picks → kinds_from pick-records ≡ ks → all_kinds pick-records ≡ true → past-picks ≡ [] → Kept bytes (book_of rs ps ks)
+kept_book : {bytes past-nodes past-entries past-picks node-records entry-records pick-records : List ℕ} {n p k : ℕ} (rs : List NodeRecord) (ps : List (Option Entry)) (ks : List Kind) → Stood 4 512 bytes n node-records past-nodes → nodes_from n node-records ≡ rs → lawful_nodes (nodes_from n node-records) ≡ true → Stood 26 2048 past-nodes p entry-records past-entries → places_from p entry-records ≡ ps → p ≡ places_of_all rs → Stood 1 2048 past-entries k pick-records past-picks → kinds_from pick-records ≡ ks → all_kinds pick-records ≡ true → past-picks ≡ [] → Kept bytes (book_of rs ps ks)
 kept_book {node-records = node-records} {entry-records = entry-records} {pick-records = pick-records} {n = n} {p = p} {k = k} rs ps ks nodes nodes-are nodes_lawful entries places_are total picks kinds-are kinds-lawful nothing =
     let lawful : lawful_nodes rs ≡ true = ap lawful_nodes (sym nodes-are) ∙ nodes_lawful in
     let added : length ps ≡ places_of_all rs = ap length (sym places_are) ∙ length_rows place_from 26 p entry-records ∙ total in

@@ -1,10 +1,10 @@
 -- Node records.
-use Rattle.std.proofs.Common.{◌≡◌, ℕ, zero, suc, ◌+◌, ◌*◌, ◌/◌, ◌%◌, ◌<◌, ◌≤◌, true, eqb, List, [], ◌∷◌, ◌++◌, map, length, get_or, take, drop, sym, refl, ap, ◌∙◌, arith, length-append}
+use Rattle.std.proofs.Common.{◌≡◌, ℕ, zero, suc, ◌+◌, ◌*◌, ◌/◌, ◌%◌, ◌<◌, ◌≤◌, true, eqb, List, [], ◌∷◌, ◌++◌, map, length, get_or, take, drop, sym, refl, ap, ◌∙◌, arith, length-append, Option}
 use Rattle.std.proofs.lemmas.List.{append_assoc, take_at, drop_at, nil_from_length, drop-drop}
 use Rattle.std.proofs.lemmas.Bool.{and_parts, and_from, eqb-true}
 use Rattle.book.specs.Model.{Node, no_node}
 use Rattle.book.specs.Totals.{places_in}
-use Rattle.book.specs.declared.place.Place.{Place}
+use Rattle.book.specs.declared.place.Entry.{Entry}
 use Rattle.file.specs.Encode.{bytes_of, node_record, node_records}
 use Rattle.loaded.specs.declared.record.NodeRecord.{NodeRecord}
 use Rattle.loaded.specs.Decode.{nodes_from}
@@ -49,7 +49,7 @@ said_places first [] = refl
 said_places first (n ∷ ns) = ap (λ k. length n.places + k) (said_places (first + length n.places) ns)
 
 -- the nodes that the records say, where `before` stands before their places
-nodes_back : (all before : List Place) (first : ℕ) (ns : List Node) → all ≡ before ++ all_places ns → first ≡ length before → map (node_of all) (said_of first ns) ≡ ns
+nodes_back : (all before : List (Option Entry)) (first : ℕ) (ns : List Node) → all ≡ before ++ all_places ns → first ≡ length before → map (node_of all) (said_of first ns) ≡ ns
 nodes_back all before first [] e f = refl
 nodes_back all before first (n ∷ ns) e f =
     let from : drop first all ≡ n.places ++ all_places ns = ap (drop first) e ∙ drop_at before (n.places ++ all_places ns) first (sym f) in
@@ -61,7 +61,7 @@ pub nodes_said : (ns : List Node) → map (node_of (all_places ns)) (said_of 0 n
 nodes_said ns = nodes_back (all_places ns) [] 0 ns refl refl
 
 -- and the other way round
-pub nodes_written : (all : List Place) (first count : ℕ) (records : List ℕ) → length records ≡ count * 4 → Bytes records → firsts_add_up first (nodes_from count records) ≡ true → first + places_of_all (nodes_from count records) ≤ length all → node_records first (map (node_of all) (nodes_from count records)) ≡ records
+pub nodes_written : (all : List (Option Entry)) (first count : ℕ) (records : List ℕ) → length records ≡ count * 4 → Bytes records → firsts_add_up first (nodes_from count records) ≡ true → first + places_of_all (nodes_from count records) ≤ length all → node_records first (map (node_of all) (nodes_from count records)) ≡ records
 nodes_written all first zero records cut small adds within = sym (nil_from_length records (omega arith))
 nodes_written all first (suc count) [] cut small adds within = absurd (omega arith)
 nodes_written all first (suc count) (a ∷ []) cut small adds within = absurd (omega arith)
@@ -79,7 +79,7 @@ nodes_written all first (suc count) (a ∷ b ∷ c ∷ d ∷ records) cut small 
     ∙ ap (λ k. a ∷ b ∷ (bytes_of 2 k ++ records)) (sym is)
     ∙ ap (λ xs. a ∷ b ∷ xs) (short_written c d records small.1.1.0 small.1.1.1.0)
 
-pub places_back : (all : List Place) (first : ℕ) (rs : List NodeRecord) → firsts_add_up first rs ≡ true → all_places (map (node_of all) rs) ≡ take (places_of_all rs) (drop first all)
+pub places_back : (all : List (Option Entry)) (first : ℕ) (rs : List NodeRecord) → firsts_add_up first rs ≡ true → all_places (map (node_of all) rs) ≡ take (places_of_all rs) (drop first all)
 places_back all first [] adds = refl
 places_back all first (r ∷ rs) adds =
     let sums = and_parts (eqb r.first first) (firsts_add_up (first + r.places) rs) adds in

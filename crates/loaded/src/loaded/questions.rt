@@ -6,7 +6,7 @@ ghost use Rattle.loaded.specs.TablesLemmas as Tables;
 use crate::loaded::Loaded;
 use book::book::Book;
 use book::kind::Kind;
-use book::place::Place;
+use book::place::Entry;
 
 impl Book for Loaded {
     ghost model = { loaded_model };
@@ -39,14 +39,14 @@ impl Book for Loaded {
         }
     }
 
-    fn place(&self, node: u16, index: u8) -> Place {
+    fn place(&self, node: u16, index: u8) -> Option<Entry> {
         let at = node as usize;
         if at >= self.nodes.len() {
-            return Place::Spoilt;
+            return None;
         }
         let record = self.nodes[at];
         if index >= record.places {
-            return Place::Spoilt;
+            return None;
         }
         self.places[record.first as usize + index as usize]
     }

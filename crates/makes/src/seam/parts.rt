@@ -6,7 +6,7 @@ ghost use Rattle.makes.specs.Seam.{part_of, root_place};
 
 use crate::places::place_for;
 use crate::seam::{Part, Seam, Sizes};
-use book::place::{Entry, Place};
+use book::place::Entry;
 
 impl Sizes {
     /// The sizes of no book at all.
@@ -20,20 +20,25 @@ impl Sizes {
     }
 
     /// A place of a book of these sizes, numbered on from what stands before that book.
-    pub(crate) fn renumbered(&self, before: &Sizes, level: u8, place: Place) -> Place
+    pub(crate) fn renumbered(
+        &self,
+        before: &Sizes,
+        level: u8,
+        place: Option<Entry>,
+    ) -> Option<Entry>
         requires { count_at before.now level + count_at self.now level ≤ 65536 }
         ensures { result ≡ renumberedPlace self.now before.now level place }
     {
-        let Place::Filled(entry) = place else {
-            return Place::Spoilt;
+        let Some(entry) = place else {
+            return None;
         };
         if entry.target < self.at(level) {
-            Place::Filled(Entry {
+            Some(Entry {
                 bounds: entry.bounds,
                 target: before.at(level) + entry.target,
             })
         } else {
-            Place::Spoilt
+            None
         }
     }
 }
@@ -57,13 +62,13 @@ impl Seam {
     }
 
     /// A place of the new root.
-    pub(crate) fn root_place(&self, index: u8) -> Place
+    pub(crate) fn root_place(&self, index: u8) -> Option<Entry>
         ensures { result ≡ root_place self.now index }
     {
         match index {
             0 => place_for(self.left.nodes - 1, self.left_box),
             1 => place_for(self.left.nodes + self.right.nodes - 1, self.right_box),
-            _ => Place::Spoilt,
+            _ => None,
         }
     }
 }

@@ -11,7 +11,7 @@ use crate::tally::Tally;
 use crate::tally::make::collar;
 use book::book::Book;
 use book::kind::Kind;
-use book::place::Place;
+use book::place::Entry;
 use geometry::bounds::Bounds;
 
 impl Tally {
@@ -54,10 +54,10 @@ impl Book for Tally {
         self.tree().place_count(node)
     }
 
-    fn place(&self, node: u16, index: u8) -> Place {
+    fn place(&self, node: u16, index: u8) -> Option<Entry> {
         match self.tree().covered(node, index) {
             Some(below) => place_for(below.target, self.run(below.start, below.end)),
-            None => Place::Spoilt,
+            None => None,
         }
     }
 

@@ -1,7 +1,5 @@
-use Rattle.std.proofs.Common.{◌<◌, ◌≤◌, ap, ◌∙◌, arith}
-use Rattle.std.proofs.lemmas.List.{take_all}
+use Rattle.std.proofs.Common.{◌<◌, arith}
 use Rattle.book.specs.Model.{node_count}
-use Rattle.book.specs.Totals.{places_in}
 use Rattle.book.proofs.Places.{places_in_more}
 use Rattle.book.proofs.totals.total_places.Goals as goal
 
@@ -13,9 +11,3 @@ loop-node-preserved g c =
       omega (arith, most, c.place_count.ensures),
       omega (arith, c.place_count.ensures, places_in_more m.nodes c.loop-node.node within),
     )
-
-pub returns : goal.returns
-returns g c =
-    let m = g.B.Book.model c.args.book.now in
-    let past : node_count m ≤ c.loop-node.node = omega arith in
-    c.loop-node.invariant.1 ∙ ap places_in (take_all _ m.nodes past)

@@ -1,7 +1,6 @@
-use Rattle.std.proofs.Common.{◌<◌, ◌≤◌, refl, arith}
+use Rattle.std.proofs.Common.{◌<◌, ◌≤◌, refl, arith, Some, None}
 use Rattle.std.proofs.lemmas.List.{at_drop_all}
 use Rattle.book.specs.Model.{place_count, places_of}
-use Rattle.book.specs.declared.place.Place.TheVariants.{Filled, Spoilt}
 use Rattle.file.specs.Encode.{entry_record, place_records}
 use Rattle.file.proofs.Lengths.{length_entry_record}
 use Rattle.file.proofs.Placing.{left_room, left_more, left_same, left_none}
@@ -12,9 +11,9 @@ use Rattle.file.proofs.entries.put_node_entries.Goals.{in-Filled, in_default}
 pub put_entry-at-requires : goal.put_entry-at-requires
 put_entry-at-requires g c =
     let m = g.B.Book.model c.args.book.now in
-    let e = c.in-Filled.entry in
+    let e = c.in-Some.entry in
     let within : c.loop-index.index < place_count m c.args.node = omega arith in
-    let next = place_next (places_of m c.args.node) c.loop-index.index within (Filled e) c.in-Filled.ensures in
+    let next = place_next (places_of m c.args.node) c.loop-index.index within (Some e) c.in-Some.ensures in
     omega (arith, left_room c.loop-index.invariant (entry_record e) _ next, length_entry_record e)
 
 pub loop-index-preserved : goal.loop-index-preserved
@@ -23,11 +22,11 @@ loop-index-preserved g c =
     let within : c.loop-index.index < place_count m c.args.node = omega arith in
     let next = place_next (places_of m c.args.node) c.loop-index.index within in
     elim c.match-place.branch [
-      | in-Filled w ↦
+      | in-Some w ↦
           left_same
-          (left_more c.loop-index.invariant (entry_record w.in-Filled.entry) _ (next (Filled w.in-Filled.entry) w.in-Filled.ensures) w.put_entry-at.ensures)
+          (left_more c.loop-index.invariant (entry_record w.in-Some.entry) _ (next (Some w.in-Some.entry) w.in-Some.ensures) w.put_entry-at.ensures)
           _ refl w.out-is w.at-is
-      | in_default w ↦ left_same c.loop-index.invariant _ (next Spoilt w.in_default.ensures) w.out-is w.at-is
+      | in_default w ↦ left_same c.loop-index.invariant _ (next None w.in_default.ensures) w.out-is w.at-is
     ]
 
 pub returns : goal.returns
