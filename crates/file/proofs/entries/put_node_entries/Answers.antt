@@ -6,7 +6,7 @@ use Rattle.file.proofs.Lengths.{length_entry_record}
 use Rattle.file.proofs.Placing.{left_room, left_more, left_same, left_none}
 use Rattle.file.proofs.Records.{place_next}
 use Rattle.file.proofs.entries.put_node_entries.Goals as goal
-use Rattle.file.proofs.entries.put_node_entries.Goals.{in-Filled, in_default}
+use Rattle.file.proofs.entries.put_node_entries.Goals.{in-Some, in_default}
 
 pub put_entry-at-requires : goal.put_entry-at-requires
 put_entry-at-requires g c =

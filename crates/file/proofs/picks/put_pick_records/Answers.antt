@@ -24,7 +24,7 @@ loop-pick-preserved g c =
           left_same
           (left_more c.loop-pick.invariant (number_of w.in-Some.kind ∷ []) _
           (pick_next m.kinds c.loop-pick.pick within w.in-Some.kind w.in-Some.ensures)
-          (put_is _ (ap (λ n. n ∷ []) w.number.ensures) w.put_bytes-at.ensures))
+          (put_is _ (ap (λ n. n ∷ []) w.from.ensures) w.put_bytes-at.ensures))
           _ refl w.out-is w.at-is
       | in_default w ↦ absurd (pick_some m.kinds c.loop-pick.pick within w.in_default.ensures)
     ]
