@@ -1,9 +1,22 @@
 -- The kinds of pick records, one after another.
-use Rattle.std.proofs.Common.{◌≡◌, ℕ, ◌+◌, ◌<◌, ◌≤◌, Bool, true, false, ◌&&◌, List, [], ◌∷◌, ◌++◌, length, get_or, drop, is_some, Some, None, Option, sym, refl, ap, ◌∙◌, arith}
+use Rattle.std.proofs.Common.{◌≡◌, ℕ, ◌+◌, ◌<◌, ◌≤◌, Bool, true, false, ◌&&◌, List, [], ◌∷◌, ◌++◌, length, get_or, drop, is_some, is_ok, Some, None, Option, Ok, Err, sym, refl, ap, ◌∙◌, arith}
 use Rattle.std.proofs.lemmas.List.{at_drop_more, at_drop_all, append_assoc, append-nil}
 use Rattle.book.specs.Kinds.{kind_with}
 use Rattle.book.specs.declared.kind.Kind.{Kind}
+use Rattle.std.specs.Option.{ok_or}
+use Rattle.book.specs.declared.kind.UnknownKind.{UnknownKind}
 use Rattle.loaded.specs.Decode.{all_kinds, with_kind, kinds_from}
+
+-- a number has a kind where the conversion gives one
+module _ (o : Option Kind) (e : UnknownKind) where
+  pub numbered_ok : is_ok (ok_or o e) ≡ is_some o
+  numbered_ok = elim o as (λ o. is_ok (ok_or o e) ≡ is_some o) [ Some k ↦ refl | None ↦ refl ]
+
+  pub numbered_some : (k : Kind) → Ok k ≡ ok_or o e → Some k ≡ o
+  numbered_some k = elim o as (λ o. Ok k ≡ ok_or o e → Some k ≡ o) [ Some x ↦ λ h. cc | None ↦ λ h. absurd cc ]
+
+  pub numbered_none : (f : UnknownKind) → Err f ≡ ok_or o e → None ≡ o
+  numbered_none f = elim o as (λ o. Err f ≡ ok_or o e → None ≡ o) [ Some x ↦ λ h. absurd cc | None ↦ λ h. refl ]
 
 regroup : (a b c : Bool) → (a && b) && c ≡ a && (b && c)
 regroup true b c = refl

@@ -1,13 +1,14 @@
-use Rattle.std.proofs.Common.{is_some, Option, ap, ◌∙◌, arith}
+use Rattle.std.proofs.Common.{is_ok, Result, ap, ◌∙◌, arith}
 use Rattle.book.specs.declared.kind.Kind.{Kind}
-use Rattle.loaded.proofs.PickKinds.{kinds_tested, all_tested}
+use Rattle.book.specs.declared.kind.UnknownKind.{UnknownKind}
+use Rattle.loaded.proofs.PickKinds.{kinds_tested, all_tested, numbered_ok}
 use Rattle.loaded.proofs.picks.all_kinds.Goals as goal
 
 pub loop-number-preserved : goal.loop-number-preserved
 loop-number-preserved c =
     let l = c.loop-number in
-    kinds_tested c.args.numbers.now l.number-index l.all c.is_some-all.result (omega arith)
-    (c.is_some-all.ensures ∙ ap (λ (o : Option Kind). is_some o) c.with_number.ensures) l.invariant
+    kinds_tested c.args.numbers.now l.number-index l.all c.is_ok-all.result (omega arith)
+    (c.is_ok-all.ensures.value ∙ ap (λ (r : Result Kind UnknownKind). is_ok r) c.try_from.ensures ∙ numbered_ok _ _) l.invariant
 
 pub returns : goal.returns
 returns c = all_tested c.args.numbers.now c.loop-number.number-index c.loop-number.all (omega arith) c.loop-number.invariant
