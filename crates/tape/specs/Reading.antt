@@ -1,5 +1,5 @@
 -- What the tape shows of a line: a level and three distances from ground, as one record of numbers.
-use Rattle.std.specs.Prelude.{ℕ, List, ℤ, pos, Ok, Err, Result}
+use Rattle.std.specs.Prelude.{ℕ, List, ℤ, pos, Ok, Err, Result, ◌++◌, codes, decimal}
 use Rattle.refusal.specs.declared.hands.TypingFault.{TypingFault}
 use Rattle.refusal.specs.Told.{Told, typing_told}
 use Rattle.geometry.specs.Bounds.{bounds_of}
@@ -7,6 +7,7 @@ use Rattle.geometry.specs.Distance.{euclidean, manhattan, chessboard}
 use Rattle.geometry.specs.declared.bounds.Point.{Point}
 use Rattle.geometry.specs.declared.bounds.Bounds.{Bounds}
 use Rattle.level.specs.Level.{measures}
+use Rattle.level.specs.Write.{level_text}
 use Rattle.line.specs.Point.{then, point_typed}
 use Rattle.tape.specs.declared.reading.Reading.{Reading}
 
@@ -33,3 +34,11 @@ from_ground g p =
 abbrev pub shows : List ℕ → Result Shown Told
 shows line =
     then (point_typed line) (λ t. then (bounds_of t t) (λ p. then (bounds_of ground ground) (λ g. from_ground g p)))
+
+-- level -0.35 euclidean 1225 manhattan 35 chessboard 35
+abbrev pub reading_text : Reading → List ℕ
+reading_text r =
+    codes "level " ++ (level_text r.level.hundredths
+    ++ (codes " euclidean " ++ (decimal r.euclidean
+    ++ (codes " manhattan " ++ (decimal r.manhattan
+    ++ (codes " chessboard " ++ decimal r.chessboard))))))

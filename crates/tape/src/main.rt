@@ -13,15 +13,7 @@ use std::io::{BufRead, BufReader};
 fn main(rt: HostRuntime) -> io::Result<()> {
     for line in BufReader::new(rt.alloc(), rt.stdin())?.split(rt.alloc(), b'\n') {
         match read_line(&line?) {
-            Ok(shown) => {
-                let level = shown.level;
-                let euclidean = shown.euclidean;
-                let manhattan = shown.manhattan;
-                let chessboard = shown.chessboard;
-                println!(rt;
-                    "level {level} euclidean {euclidean} manhattan {manhattan} chessboard {chessboard}"
-                )?;
-            }
+            Ok(reading) => rt.println(reading)?,
             Err(fault) => {
                 let number = Refusal::from(fault).number();
                 println!(rt; "refused {number}")?;

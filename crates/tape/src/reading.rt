@@ -1,8 +1,8 @@
 //! What the tape shows of a line.
 
-ghost use Rattle.std.specs.Prelude.{◌≡◌};
+ghost use Rattle.std.specs.Prelude.{◌≡◌, Some};
 ghost use Rattle.level.specs.Level.{measured, measures};
-ghost use Rattle.tape.specs.Reading.{shown, from_ground, shows};
+ghost use Rattle.tape.specs.Reading.{shown, from_ground, shows, reading_text};
 
 use geometry::bounds::{Bounds, Point};
 use geometry::chessboard::Chessboard;
@@ -12,6 +12,7 @@ use geometry::measure::Measure;
 use level::level::Level;
 use line::point::typed_point;
 use refusal::hands::TypingFault;
+use std::fmt;
 
 #[derive(Clone, Copy)]
 pub struct Reading {
@@ -21,6 +22,23 @@ pub struct Reading {
     pub chessboard: u64,
 }
 
+impl fmt::Display for Reading {
+    ghost output = { λ reading. Some (reading_text reading) };
+
+    fn fmt<W: fmt::Write>(&self, f: &mut fmt::Formatter<W>) -> fmt::Result {
+        let Reading {
+            level,
+            euclidean,
+            manhattan,
+            chessboard,
+        } = *self;
+        write!(
+            f,
+            "level {level} euclidean {euclidean} manhattan {manhattan} chessboard {chessboard}"
+        )
+    }
+}
+
 // The highest level of a box; of a point, its level.
 fn top(bounds: &Bounds) -> Result<Level, TypingFault>
     ensures { measured result ≡ measures bounds.now.level.high }
@@ -28,6 +46,7 @@ fn top(bounds: &Bounds) -> Result<Level, TypingFault>
     Level::new(bounds.level.high)
 }
 
+#[tactic(auto, unfolding(crate::specs::Reading::from_ground))]
 fn from_ground(ground: &Bounds, point: &Bounds) -> Result<Reading, TypingFault>
     ensures { shown result ≡ from_ground ground.now point.now }
 {
