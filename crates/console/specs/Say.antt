@@ -1,6 +1,5 @@
 -- What the console prints.
 use Rattle.std.specs.Prelude.{ℕ, List, ◌++◌, Some, None, codes, decimal, Option}
-use Rattle.refusal.specs.Told.{Told as Refused}
 use Rattle.level.specs.Write.{level_text}
 use Rattle.book.specs.Kinds.{number_of}
 use Rattle.book.specs.declared.kind.Kind.{Kind}
@@ -30,15 +29,3 @@ found_line (Nothing opened) kind = codes "none opened " ++ decimal opened
 -- told 2 opened 3
 abbrev pub counts_line : Counts → List ℕ
 counts_line c = codes "told " ++ (decimal c.told ++ (codes " opened " ++ decimal c.opened))
-
--- the node and the entry stand where there are such
-abbrev pub refused_as : ℕ → Option ℕ → Option ℕ → List ℕ
-refused_as number (Some node) (Some place) =
-    codes "refused " ++ (decimal number ++ (codes " node " ++ (decimal node ++ (codes " entry " ++ decimal place))))
-refused_as number (Some node) None = codes "refused " ++ (decimal number ++ (codes " node " ++ decimal node))
-refused_as number None (Some place) = codes "refused " ++ (decimal number ++ (codes " entry " ++ decimal place))
-refused_as number None None = codes "refused " ++ decimal number
-
--- refused 14 node 2 entry 0
-abbrev pub refused_line : Refused → List ℕ
-refused_line t = refused_as t.number t.node t.place

@@ -2,7 +2,8 @@
 
 ghost use Rattle.std.specs.Prelude.{◌≡◌, IfOk, string_bytes};
 ghost use Rattle.refusal.specs.Told.{told};
-ghost use Rattle.console.specs.Say.{accepted_line, kind_number, found_line, counts_line, refused_line};
+ghost use Rattle.refusal.specs.Line.{refused_line};
+ghost use Rattle.console.specs.Say.{accepted_line, kind_number, found_line, counts_line};
 
 use book::kind::Kind;
 use browse::answer::{Counts, Found};
@@ -53,11 +54,5 @@ pub fn counts_line(heap: Global, counts: Counts) -> Result<String, AllocError>
 pub fn refused_line(heap: Global, refusal: Refusal) -> Result<String, AllocError>
     ensures { IfOk result (λ s. string_bytes s ≡ refused_line (told refusal)) }
 {
-    let number = refusal.number();
-    match (refusal.node(), refusal.place()) {
-        (Some(node), Some(place)) => format!(in heap; "refused {number} node {node} entry {place}"),
-        (Some(node), None) => format!(in heap; "refused {number} node {node}"),
-        (None, Some(place)) => format!(in heap; "refused {number} entry {place}"),
-        (None, None) => format!(in heap; "refused {number}"),
-    }
+    format!(in heap; "{refusal}")
 }

@@ -1,9 +1,10 @@
 -- What the program makes of its file: the answer, the first line and the first state.
 use Rattle.std.specs.Prelude.{ℕ, List, Ok, Err, Result}
 use Rattle.refusal.specs.Told.{Told}
+use Rattle.refusal.specs.Line.{refused_line}
 use Rattle.book.specs.Model.{Model}
 use Rattle.book_check.specs.Checked.{checked}
-use Rattle.console.specs.Say.{accepted_line, refused_line}
+use Rattle.console.specs.Say.{accepted_line}
 use Rattle.console.specs.declared.state.State.{State}
 use Rattle.console.specs.declared.state.State.TheVariants.{NoBook, Ready}
 

@@ -3,4 +3,7 @@
 #![tactic(auto)]
 
 pub mod hands;
+mod print;
 pub mod refusal;
+#[cfg(test)]
+mod tests;
