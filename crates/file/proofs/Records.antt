@@ -8,7 +8,8 @@ use Rattle.book.specs.declared.place.Entry.{Entry}
 use Rattle.book.specs.Kinds.{number_of}
 use Rattle.book.specs.Model.{Node, no_node}
 use Rattle.book.specs.Totals.{places_in}
-use Rattle.file.specs.Encode.{le16, point_bytes, low_ends, high_ends, node_record, node_records, entry_record, place_record, place_records, entry_records, pick_records}
+use Rattle.geometry.specs.Ends.{low_ends, high_ends}
+use Rattle.file.specs.Encode.{le16, point_bytes, node_record, node_records, entry_record, place_record, place_records, entry_records, pick_records}
 use Rattle.file.specs.Put.{Put}
 use Rattle.file.proofs.Bytes.{length_bytes_of}
 use Rattle.file.proofs.Lengths.{length_point, length_entry_record}

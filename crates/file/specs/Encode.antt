@@ -1,8 +1,8 @@
 -- The file form of a book: its bytes, as numbers below 256. All numbers in it are little-endian.
 use Rattle.std.specs.Prelude.{ℕ, zero, suc, ◌+◌, ◌-◌, ◌/◌, ◌%◌, ◌^◌, List, [], ◌∷◌, ◌++◌, map, length, ℤ, pos, negsuc, Some, None, Option}
 use Rattle.std.specs.List.{flat_map}
+use Rattle.geometry.specs.Ends.{low_ends, high_ends}
 use Rattle.geometry.specs.declared.bounds.Point.{Point}
-use Rattle.geometry.specs.declared.bounds.Bounds.{Bounds}
 use Rattle.book.specs.declared.kind.Kind.{Kind}
 use Rattle.book.specs.declared.place.Entry.{Entry}
 use Rattle.book.specs.Kinds.{number_of}
@@ -36,12 +36,6 @@ node_records first (n ∷ ns) = node_record first n ++ node_records (first + len
 
 abbrev pub point_bytes : Point → List ℕ
 point_bytes p = le32 p.easting ++ (le32 p.northing ++ le32 p.level)
-
-abbrev pub low_ends : Bounds → Point
-low_ends b = record { easting = b.easting.low; northing = b.northing.low; level = b.level.low }
-
-abbrev pub high_ends : Bounds → Point
-high_ends b = record { easting = b.easting.high; northing = b.northing.high; level = b.level.high }
 
 abbrev pub entry_record : Entry → List ℕ
 entry_record e = point_bytes (low_ends e.bounds) ++ (point_bytes (high_ends e.bounds) ++ le16 e.target)

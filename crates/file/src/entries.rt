@@ -3,41 +3,20 @@
 ghost use Rattle.std.specs.Prelude.{◌≡◌, ◌+◌, ◌≤◌, length};
 ghost use Rattle.book.specs.Model.{places_of};
 ghost use Rattle.book.specs.Totals.{total_places};
-ghost use Rattle.file.specs.Encode.{low_ends, high_ends, entry_record, place_records, entry_records, entry_section};
+ghost use Rattle.file.specs.Encode.{entry_record, place_records, entry_records, entry_section};
 ghost use Rattle.file.specs.Put.{Put};
 
 use crate::put::{put_point, put_u16};
 use book::book::Book;
 use book::place::Entry;
-use geometry::bounds::{Bounds, Point};
 
-fn low_ends(bounds: &Bounds) -> Point
-    ensures { result ≡ low_ends bounds.now }
-{
-    Point {
-        easting: bounds.easting.low,
-        northing: bounds.northing.low,
-        level: bounds.level.low,
-    }
-}
-
-fn high_ends(bounds: &Bounds) -> Point
-    ensures { result ≡ high_ends bounds.now }
-{
-    Point {
-        easting: bounds.easting.high,
-        northing: bounds.northing.high,
-        level: bounds.level.high,
-    }
-}
-
-/// Puts the record of an entry: the low ends of its box, the high ends, the target.
+/// Puts the record of an entry: the low corner of its box, the high corner, the target.
 fn put_entry(entry: Entry, out: &mut [u8], at: usize) -> usize
     requires { at + 26 ≤ length out.old }
     ensures { Put out.old at (entry_record entry) out.new result }
 {
-    let at = put_point(&low_ends(&entry.bounds), out, at);
-    let at = put_point(&high_ends(&entry.bounds), out, at);
+    let at = put_point(&entry.bounds.low(), out, at);
+    let at = put_point(&entry.bounds.high(), out, at);
     put_u16(entry.target, out, at)
 }
 

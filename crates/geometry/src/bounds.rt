@@ -11,7 +11,7 @@ pub const LEAST: i32 = -10_000_000;
 pub const MOST: i32 = 10_000_000;
 
 /// Three numbers, one an axis, in hundredths of a foot; nobody has tested that they are in range.
-#[derive(Clone, Copy, PartialEq, Eq, Debug)]
+#[derive(Clone, Copy, PartialEq, Eq, PartialOrd, Ord, Debug)]
 pub struct Point {
     pub easting: i32,
     pub northing: i32,
@@ -19,7 +19,7 @@ pub struct Point {
 }
 
 /// The coordinates from `low` to `high`, both included: one axis of a box.
-#[derive(Clone, Copy)]
+#[derive(Clone, Copy, PartialEq, Eq, Debug)]
 pub struct Span {
     pub low: i32,
     pub high: i32,
@@ -29,7 +29,7 @@ pub struct Span {
 }
 
 /// A bounding box. Each axis holds its own proof, so no box with ends out of order or out of range exists.
-#[derive(Clone, Copy)]
+#[derive(Clone, Copy, PartialEq, Eq, Debug)]
 pub struct Bounds {
     pub easting: Span,
     pub northing: Span,

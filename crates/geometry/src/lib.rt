@@ -7,6 +7,7 @@ pub mod bounds;
 pub mod chessboard;
 pub mod choice;
 pub mod contains;
+pub mod corners;
 pub mod euclidean;
 pub mod gap;
 pub mod manhattan;

@@ -8,7 +8,8 @@ use Rattle.geometry.proofs.Boxes.{by_option, bounds_at_lem, box_ends}
 use Rattle.geometry.specs.Bounds.{bounds_at}
 use Rattle.geometry.specs.declared.bounds.Point.{Point}
 use Rattle.book.specs.declared.place.Entry.{Entry}
-use Rattle.file.specs.Encode.{bytes_of, le16, le32, twos_complement, point_bytes, low_ends, high_ends, entry_record, place_record, place_records}
+use Rattle.geometry.specs.Ends.{low_ends, high_ends}
+use Rattle.file.specs.Encode.{bytes_of, le16, le32, twos_complement, point_bytes, entry_record, place_record, place_records}
 use Rattle.file.proofs.Back.{short_back, long_back, low_fits, high_fits}
 use Rattle.file.proofs.Bytes.{twos_complement_is}
 use Rattle.file.proofs.Lengths.{length_entry_record}
