@@ -3,7 +3,7 @@ use Rattle.std.proofs.Common.{◌≡◌, ℕ, ◌+◌, ◌<◌, ◌≤◌}
 use Rattle.book.specs.Model.{Model, level_of, place_count}
 use Rattle.book.specs.declared.place.Entry.{Entry}
 use Rattle.book_check.specs.Targets.{target_of, root_of}
-use Rattle.book_check.specs.Totals.{total_places}
+use Rattle.book.specs.Totals.{total_places}
 use Rattle.book_check.specs.Accepted.{Stands, Names, InBook, Accepted}
 use Rattle.book_check.specs.declared.target.Target.{Target}
 use Rattle.book_check.specs.declared.target.Target.TheVariants.{Pick, Child}

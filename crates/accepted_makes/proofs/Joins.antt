@@ -6,7 +6,7 @@ use Rattle.book.specs.Model.{Model, BookShape, Node, node_of, node_count, pick_l
 use Rattle.book.specs.declared.place.Entry.{Entry}
 use Rattle.geometry.specs.declared.bounds.Bounds.{Bounds}
 use Rattle.book_check.specs.Targets.{target_of, root_of}
-use Rattle.book_check.specs.Totals.{total_places}
+use Rattle.book.specs.Totals.{total_places}
 use Rattle.book_check.specs.Accepted.{Stands, Names, InBook, Accepted, Exactly}
 use Rattle.book_check.specs.Names.{picks_named}
 use Rattle.book_check.specs.declared.target.Target.{Target}

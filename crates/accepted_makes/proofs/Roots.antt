@@ -1,17 +1,17 @@
 -- The box of a root that has entries, and the nodes of a joined book.
-use Rattle.std.proofs.Common.{◌≡◌, ℕ, ◌+◌, ◌-◌, ◌<◌, ◌≤◌, Bool, true, false, cond, not, ◌||◌, eqb, ltb, List, [], ◌∷◌, ◌++◌, map, length, get_or, Some, None, Ok, Err, sum_by, Option, Result, sym, refl, ap, ◌∙◌, subst, ⊎_elim, zero-add, arith, length-append}
+use Rattle.std.proofs.Common.{◌≡◌, ℕ, ◌+◌, ◌-◌, ◌<◌, ◌≤◌, Bool, true, false, cond, not, ◌||◌, eqb, ltb, List, [], ◌∷◌, ◌++◌, map, length, get_or, Some, None, Ok, Err, Option, Result, sym, refl, ap, ◌∙◌, subst, ⊎_elim, zero-add, arith, length-append}
 use Rattle.std.proofs.Math.ListN
 use Rattle.std.proofs.Math.ListN.{length-map}
 use Rattle.std.proofs.ByRecursion.{All-get_or}
 use Rattle.std.proofs.lemmas.List.{get_or_past, get_or_append_left, get_or-append-add, get_or_at, get_or-map}
-use Rattle.std.proofs.lemmas.List.Sums.{sum_by-cons, sum_by-append}
 use Rattle.std.proofs.lemmas.Bool.{not-false, eqb-true, eqb-false, or_parts, cases_lt}
 use Rattle.refusal.specs.Told.{Told, plain}
 use Rattle.book.specs.Model.{Model, Node, no_node, node_of, node_count, pick_limit}
 use Rattle.book.specs.declared.place.Entry.{Entry}
 use Rattle.geometry.specs.Within.{Within}
 use Rattle.geometry.specs.declared.bounds.Bounds.{Bounds}
-use Rattle.book_check.specs.Totals.{total_places}
+use Rattle.book.specs.Totals.{places_in, total_places}
+use Rattle.book.proofs.Places.{places_in_append}
 use Rattle.makes.specs.Join.{sizes_of, nothing, count_at, renumbered, renumbered_node, root_of, root_boxes, root_box, new_root, both_books, root_empty, roots_apart, joinable, joined}
 use Rattle.makes.specs.Smallest.{smallest, box_of, LiesIn, IsSmallest}
 use Rattle.makes.specs.declared.seam.Sizes.{Sizes}
@@ -153,22 +153,16 @@ module _ (l r : Model) where
 
 -- ---- the places of both books
 
-copied_total : (own before : Sizes) (ns : List Node) → sum_by (λ (n : Node). length n.places) (map (renumbered_node own before) ns) ≡ sum_by (λ (n : Node). length n.places) ns
+copied_total : (own before : Sizes) (ns : List Node) → places_in (map (renumbered_node own before) ns) ≡ places_in ns
 copied_total own before [] = refl
-copied_total own before (n ∷ ns) =
-    let f : Node → ℕ = λ x. length x.places in
-    sum_by-cons f (renumbered_node own before n) (map (renumbered_node own before) ns)
-    ∙ (λ i. renumbered_count own before n i + copied_total own before ns i)
-    ∙ sym (sum_by-cons f n ns)
+copied_total own before (n ∷ ns) = λ i. renumbered_count own before n i + copied_total own before ns i
 
 pub both_total : (l r : Model) → total_places (both_books l r) ≡ total_places l + total_places r + 2
-unfolding total_places
 both_total l r =
-    let f : Node → ℕ = λ x. length x.places in
     let a = map (renumbered_node (sizes_of l) nothing) l.nodes in
     let b = map (renumbered_node (sizes_of r) (sizes_of l)) r.nodes in
     let last = new_root l r ∷ [] in
-    sum_by-append f a (b ++ last)
-    ∙ ap (λ k. sum_by f a + k) (sum_by-append f b last)
+    places_in_append a (b ++ last)
+    ∙ ap (λ k. places_in a + k) (places_in_append b last)
     ∙ (λ i. copied_total (sizes_of l) nothing l.nodes i + (copied_total (sizes_of r) (sizes_of l) r.nodes i + 2))
     ∙ omega arith

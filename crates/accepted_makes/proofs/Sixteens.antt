@@ -9,7 +9,8 @@ use Rattle.geometry.specs.declared.bounds.Bounds.{Bounds}
 use Rattle.book_check.specs.Below.{count_below}
 use Rattle.book_check.specs.Names.{is_named, picks_named}
 use Rattle.book_check.specs.Targets.{target_of, root_of}
-use Rattle.book_check.specs.Totals.{total_places}
+use Rattle.book.specs.Totals.{total_places}
+use Rattle.book.proofs.Places.{places_summed}
 use Rattle.book_check.specs.Accepted.{Stands, Names, InBook, Accepted}
 use Rattle.book_check.specs.declared.target.Target.{Target}
 use Rattle.book_check.specs.declared.target.Target.TheVariants.{Pick, Child}
@@ -70,8 +71,7 @@ module _ (bs : List (Option Bounds)) (ks : List Kind) (some : 0 < length bs) (mo
       ∙ cond-false (leb picks 256) (leaves + 1) _ (lt-leb picks 256 (omega arith))
 
   total : total_places m ≡ places_for picks
-  unfolding total_places
-  total = (tree_by bs some most).places
+  total = places_summed m.nodes ∙ (tree_by bs some most).places
 
   few_places : places_for picks ≤ 2048
   few_places =

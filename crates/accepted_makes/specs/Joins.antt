@@ -2,7 +2,7 @@
 use Rattle.std.specs.Prelude.{◌≡◌, ℕ, ◌+◌, ◌≤◌, Ok, Result}
 use Rattle.refusal.specs.declared.hands.TreeFault.{TreeFault}
 use Rattle.book.specs.Model.{Model, BookShape}
-use Rattle.book_check.specs.Totals.{total_places}
+use Rattle.book.specs.Totals.{total_places}
 use Rattle.book_check.specs.Accepted.{Accepted}
 use Rattle.book_check.specs.Names.{picks_named}
 use Rattle.makes.specs.Join.{joinable, joined}

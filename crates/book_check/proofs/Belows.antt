@@ -1,5 +1,6 @@
 -- The first below a number, and some below a number, by what stands at each.
-use Rattle.std.proofs.Common.{◌≡◌, ℕ, zero, suc, ◌+◌, ◌<◌, Bool, true, false, ◌||◌, Some, None, Option, sym, refl, ap, ◌∙◌, ⊎_elim, add-one, arith}
+use Rattle.std.proofs.Common.{◌≡◌, ℕ, zero, suc, ◌+◌, ◌<◌, Bool, true, false, ◌||◌, List, Some, None, Option, sym, refl, ap, ◌∙◌, ⊎_elim, add-zero, add-one, arith}
+use Rattle.std.specs.List.{list_any, filter_map, cons_option, range_with_len}
 use Rattle.std.proofs.lemmas.Bool.{false≢true, or_parts, or_from, or_cases, or_left, or_right, cases_eq}
 use Rattle.book_check.specs.Below.{or_else, first_below, some_below}
 
@@ -25,8 +26,31 @@ some_found f zero h = absurd (false≢true h)
 some_found f (suc n) h =
     ⊎_elim (λ e. (n, omega arith, e)) (λ e. let r = some_found f n e in (r.0, omega (arith, r.1), r.2)) (or_cases (f n) (some_below f n) h)
 
-pub some_more : (f : ℕ → Bool) (n : ℕ) → some_below f (n + 1) ≡ (f n || some_below f n)
-some_more f n = ap (some_below f) (add-one n)
+-- from the front
+some_front : (f : ℕ → Bool) (n : ℕ) → some_below f (suc n) ≡ (f 0 || some_below (λ k. f (suc k)) n)
+some_front f zero = refl
+some_front f (suc n) = ap (λ b. f (suc n) || b) (some_front f n) ∙ turned (f (suc n)) (f 0) (some_below (λ k. f (suc k)) n)
+  where
+    turned : (a b c : Bool) → (a || (b || c)) ≡ (b || (a || c))
+    turned true true c = refl
+    turned true false c = refl
+    turned false b c = refl
+
+-- `any` over what there is at a, at a + 1, and so on for n numbers; q is the test where there may be nothing
+pub any_below : {A : Type 0} (p : A → Bool) (q : Option A → Bool) (at : ℕ → Option A) → q None ≡ false → ((x : A) → p x ≡ q (Some x)) → (f : ℕ → Bool) (a n : ℕ) → ((k : ℕ) → q (at (a + k)) ≡ f k) → list_any p (filter_map at (range_with_len a n)) ≡ some_below f n
+any_below p q at none some f a zero h = refl
+any_below p q at none some f a (suc n) h =
+    here (at a) _ ∙ (λ i. first i || any_below p q at none some (λ k. f (suc k)) (a + 1) n after i) ∙ sym (some_front f n)
+  where
+    here : (o : Option _) (xs : List _) → list_any p (cons_option o xs) ≡ (q o || list_any p xs)
+    here None xs = λ i. sym none i || list_any p xs
+    here (Some x) xs = λ i. some x i || list_any p xs
+
+    first : q (at a) ≡ f 0
+    first = ap (λ k. q (at k)) (sym (add-zero a)) ∙ h 0
+
+    after : (k : ℕ) → q (at (a + 1 + k)) ≡ f (suc k)
+    after k = ap (λ j. q (at j)) (let e : a + 1 + k ≡ a + suc k = omega arith in e) ∙ h (suc k)
 
 -- ---- first
 
@@ -36,7 +60,7 @@ first_no f (suc n) h = ap (λ x. or_else x (f n)) (first_no f n (λ k l. h k (om
 
 -- the parts of a choice that gives nothing
 pub else_parts : {A : Type 0} (x y : Option A) → or_else x y ≡ None → (x ≡ None) × (y ≡ None)
-else_parts (Some a) y h = (h, absurd (let z : ◌≡◌ {A = ℕ} 0 1 = cc in omega arith))
+else_parts (Some a) y h = (h, absurd cc)
 else_parts None y h = (refl, h)
 
 pub first_none : {A : Type 0} (f : ℕ → Option A) (n k : ℕ) → first_below f n ≡ None → k < n → f k ≡ None

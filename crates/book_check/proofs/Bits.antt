@@ -1,9 +1,10 @@
 -- One bit of one word, set and counted.
-use Rattle.std.proofs.Common.{◌≡◌, ℕ, zero, suc, ◌+◌, ◌-◌, ◌*◌, ◌/◌, ◌%◌, ◌^◌, ◌<◌, ◌≤◌, Bool, true, false, cond, ◌||◌, eqb, ◌≢◌, ◌⊎◌, List, length, get_or, set, replicate, sym, refl, ap, ◌∙◌, inl, inr, add-zero, add-suc, arith, lit<}
+use Rattle.std.proofs.Common.{◌≡◌, ℕ, zero, suc, ◌+◌, ◌-◌, ◌*◌, ◌/◌, ◌%◌, ◌^◌, ◌<◌, ◌≤◌, Bool, true, false, cond, ◌||◌, eqb, ◌≢◌, ◌⊎◌, List, length, get_or, set, take, replicate, sum_by, sym, refl, ap, ◌∙◌, inl, inr, add-zero, add-one, add-suc, arith, lit<}
 use native.Mathlib.Nat.{zero-div}
 use lib.Bits.{bit_or, or_zero_l}
 use lib.Count.{ones, ones_cat}
-use Rattle.std.proofs.lemmas.List.{get_or-set_same, get_or-set_other}
+use Rattle.std.proofs.lemmas.List.{get_or-set_same, get_or-set_other, take_all}
+use Rattle.std.proofs.lemmas.List.Sums.{sum_by_more}
 use Rattle.std.proofs.lemmas.Nat.{or_shr, or_mod, or_comm, shl-shr, pow-add, pow_pos, pow_below, div_below, mod_below, mod-pow-add, one_shl}
 use Rattle.std.proofs.lemmas.Bool.{cases_order}
 use Rattle.std.proofs.lemmas.Bool.Decides.{nat_tests}
@@ -116,18 +117,6 @@ unfolding count_below
 count_add f a zero = ap (count_below f) (add-zero a) ∙ sym (add-zero (count_below f a))
 count_add f a (suc n) = ap (count_below f) (add-suc a n) ∙ (let e = count_add f a n in omega arith)
 
-pub count_none : (f : ℕ → Bool) → count_below f 0 ≡ 0
-unfolding count_below
-count_none f = refl
-
-pub count_most : (f : ℕ → Bool) (n : ℕ) → count_below f n ≤ n
-unfolding count_below
-count_most f zero = omega arith
-count_most f (suc n) =
-    let a = count_most f n in
-    let b : cond (f n) 1 0 ≤ 1 = elim (f n) as (λ t. cond t 1 0 ≤ 1) [ true ↦ omega arith | false ↦ omega arith ] in
-    omega arith
-
 -- where f holds at none from n on
 pub count_past : (f : ℕ → Bool) (n d : ℕ) → ((k : ℕ) → n ≤ k → f k ≡ false) → count_below f (n + d) ≡ count_below f n
 unfolding count_below
@@ -162,7 +151,7 @@ pub ones_count : (w : ℕ) → w < 2 ^ 64 → ones w ≡ count_below (λ i. eqb 
 ones_count w h = ap ones (let e : w ≡ w % 2 ^ 64 = omega arith in e) ∙ ones_low w 64
 
 -- one word more
-pub count_word : (ws : List ℕ) (i total : ℕ) → get_or ws i 0 < 2 ^ 64 → total ≡ count_below (marked ws) (i * 64) → total + ones (get_or ws i 0) ≡ count_below (marked ws) ((i + 1) * 64)
+count_word : (ws : List ℕ) (i total : ℕ) → get_or ws i 0 < 2 ^ 64 → total ≡ count_below (marked ws) (i * 64) → total + ones (get_or ws i 0) ≡ count_below (marked ws) ((i + 1) * 64)
 unfolding marked
 count_word ws i total h e =
     let s : (i + 1) * 64 ≡ i * 64 + 64 = omega arith in
@@ -172,3 +161,15 @@ count_word ws i total h e =
     let b = count_same (λ j. eqb (bit (get_or ws i 0) j) 1) (λ j. marked ws (i * 64 + j)) 64 at in
     let d = count_add (marked ws) (i * 64) 64 in
     rw s (omega arith)
+
+-- the ones of words, together
+pub ones_in : (ws : List ℕ) → ((i : ℕ) → get_or ws i 0 < 2 ^ 64) → sum_by ones ws ≡ count_below (marked ws) (length ws * 64)
+unfolding count_below
+ones_in ws fits = ap (sum_by ones) (sym (take_all (length ws) ws (omega arith))) ∙ upto (length ws) (omega arith)
+  where
+    upto : (n : ℕ) → n ≤ length ws → sum_by ones (take n ws) ≡ count_below (marked ws) (n * 64)
+    upto zero h = refl
+    upto (suc n) h =
+        let one = sum_by_more ones ws n 0 (omega arith) in
+        let word = count_word ws n (sum_by ones (take n ws)) (fits n) (upto n (omega arith)) in
+        ap (λ k. sum_by ones (take k ws)) (sym (add-one n)) ∙ one ∙ word ∙ ap (λ k. count_below (marked ws) (k * 64)) (add-one n)

@@ -8,7 +8,6 @@ use Rattle.book.specs.Model.{Model, Node, empty_book}
 use Rattle.book.specs.declared.kind.Kind.TheVariants.{Marker}
 use Rattle.book.specs.declared.place.Entry.{Entry}
 use Rattle.book_check.specs.Below.{count_below}
-use Rattle.book_check.specs.Totals.{total_places}
 use Rattle.book_check.specs.Names.{names, named_before, is_named, picks_named}
 use Rattle.book_check.specs.Sound.{sticks_out, sound_target}
 use Rattle.book_check.specs.Checked.{place_fault, node_fault, tree_fault, checked}
@@ -143,5 +142,5 @@ cases =
     ∷ []
 
 pub shown : map (λ c. checked c.0) cases ≡ map (λ c. c.1) cases
-unfolding checked tree_fault node_fault place_fault sound_target sticks_out names named_before is_named picks_named count_below total_places contains
+unfolding checked tree_fault node_fault place_fault sound_target sticks_out names named_before is_named picks_named count_below contains
 shown = refl

@@ -1,11 +1,12 @@
 -- The first fault of a book, part by part.
+use Rattle.std.specs.Bool.{⊤}
 use Rattle.std.proofs.Common.{◌≡◌, ℕ, ◌<◌, ◌≤◌, Bool, true, false, ◌&&◌, eqb, ltb, ◌⊎◌, [], ◌∷◌, Some, None, Ok, Err, Option, Result, sym, refl, ap, ◌∙◌, inl, inr, ⊎_elim, arith}
 use Rattle.std.proofs.lemmas.Bool.{lt-ltb, le-ltb, ltb-false, eqb-false, eq-eqb, ne_eqb, and_cases, and_left, and_right}
 use Rattle.refusal.specs.Told.{Told, plain, at_node, at_place}
 use Rattle.book.specs.Model.{Model, node_count, place_count}
 use Rattle.book_check.specs.Below.{or_else, first_of, first_below}
 use Rattle.book_check.specs.Targets.{root_of}
-use Rattle.book_check.specs.Totals.{total_places}
+use Rattle.book.specs.Totals.{total_places}
 use Rattle.book_check.specs.Names.{named_before, picks_named}
 use Rattle.book_check.specs.Sound.{when, unless, sound_target}
 use Rattle.book_check.specs.Checked.{crowded, barren, twice, place_fault, node_fault, unnamed, tree_fault, checked}
@@ -14,7 +15,7 @@ use Rattle.book_check.proofs.Belows.{else_parts, first_none, first_at}
 
 -- a test gives no fault exactly if it fails
 pub when_none : (b : Bool) (f : Told) → when b f ≡ None → b ≡ false
-when_none true f h = absurd (let z : ◌≡◌ {A = ℕ} 0 1 = cc in omega arith)
+when_none true f h = absurd cc
 when_none false f h = refl
 
 pub none_when : (b : Bool) (f : Told) → b ≡ false → when b f ≡ None
@@ -35,7 +36,7 @@ unfolding place_fault
 place_twice m n i t s h = ap (twice m n i) s ∙ ap (λ x. when x (at_place 18 n i)) h
 
 twice_parts : (m : Model) (n i : ℕ) (r : Result Target Told) → sound_target m n i ≡ r → twice m n i r ≡ None → (t : Target) × (sound_target m n i ≡ Ok t) × (named_before m n i t ≡ false)
-twice_parts m n i (Err f) e h = absurd (let z : ◌≡◌ {A = ℕ} 0 1 = cc in omega arith)
+twice_parts m n i (Err f) e h = absurd cc
 twice_parts m n i (Ok t) e h = (t, e, when_none (named_before m n i t) (at_place 18 n i) h)
 
 pub place_parts : (m : Model) (n i : ℕ) → place_fault m n i ≡ None → (t : Target) × (sound_target m n i ≡ Ok t) × (named_before m n i t ≡ false)
@@ -117,8 +118,17 @@ pub accepted : (m : Model) (k : ℕ) → tree_fault m ≡ None → k ≡ picks_n
 unfolding checked
 accepted m k h e = ap Ok e ∙ sym (ap (λ x. unless x (picks_named m)) h)
 
+-- what a scan that gives nothing but a fault has told
+pub fault_parts : (x : Option Told) (f : Told) → ◌≡◌ {A = Result ⊤ Told} (Err f) (unless x tt) → x ≡ Some f
+fault_parts (Some e) f h = cc
+fault_parts None f h = absurd cc
+
+pub none_parts : (x : Option Told) → ◌≡◌ {A = Result ⊤ Told} (Ok tt) (unless x tt) → x ≡ None
+none_parts (Some e) h = absurd cc
+none_parts None h = refl
+
 unless_parts : (x : Option Told) (k l : ℕ) → unless x l ≡ Ok k → (x ≡ None) × (k ≡ l)
-unless_parts (Some f) k l h = absurd (let z : ◌≡◌ {A = ℕ} 0 1 = cc in omega arith)
+unless_parts (Some f) k l h = absurd cc
 unless_parts None k l h = (refl, cc)
 
 pub accepted_parts : (m : Model) (k : ℕ) → checked m ≡ Ok k → (tree_fault m ≡ None) × (k ≡ picks_named m)

@@ -201,7 +201,7 @@ accepted_exactly m k = (
 -- the same of the call's own answer
 answered_ok : (r : Result ℕ TreeFault) (k : ℕ) → answered tree_told r ≡ Ok k → r ≡ Ok k
 answered_ok (Ok a) k h = cc
-answered_ok (Err e) k h = absurd (let z : ◌≡◌ {A = ℕ} 0 1 = cc in omega arith)
+answered_ok (Err e) k h = absurd cc
 
 pub answer_exactly : (m : Model) (r : Result ℕ TreeFault) → answered tree_told r ≡ checked m → (k : ℕ) → Exactly (r ≡ Ok k) (Accepted m × (k ≡ picks_named m))
 answer_exactly m r e k =

@@ -1,11 +1,12 @@
 -- What the scan knows at each turn, and what it has found when it stops.
-use Rattle.std.proofs.Common.{◌≡◌, ℕ, ◌+◌, ◌-◌, ◌<◌, ◌≤◌, true, false, not, ◌||◌, ◌⊎◌, Some, None, Ok, Err, sym, ap, ◌∙◌, inl, inr, ⊎_elim, arith}
+use Rattle.std.proofs.Common.{◌≡◌, ℕ, ◌+◌, ◌-◌, ◌<◌, ◌≤◌, true, false, not, ◌||◌, ◌⊎◌, Some, None, Ok, Err, Option, sym, ap, ◌∙◌, inl, inr, ⊎_elim, arith}
+use Rattle.std.specs.Option.{MatchOption, option_map}
 use Rattle.std.proofs.lemmas.Bool.{ltb-true, cases_Bool}
 use Rattle.refusal.specs.Told.{Told, at_node, at_place}
 use Rattle.book.specs.Model.{Model, BookShape, node_count, pick_limit, place_count}
 use Rattle.book_check.specs.Below.{first_below, count_below}
 use Rattle.book_check.specs.Targets.{target_of, root_of, in_book, same}
-use Rattle.book_check.specs.Totals.{total_places}
+use Rattle.book.specs.Totals.{total_places}
 use Rattle.book_check.specs.Names.{named_before, is_named, picks_named}
 use Rattle.book_check.specs.Sound.{when, sound_target}
 use Rattle.book_check.specs.Checked.{place_fault, node_fault, unnamed, tree_fault}
@@ -13,7 +14,7 @@ use Rattle.book_check.specs.Marks.{bit_of, HasBit, first_unnamed}
 use Rattle.book_check.specs.declared.target.Target.{Target}
 use Rattle.book_check.specs.declared.target.Target.TheVariants.{Pick, Child}
 use Rattle.book_check.specs.declared.named.Named.{Named}
-use Rattle.book_check.proofs.Belows.{first_none, first_more, first_same}
+use Rattle.book_check.proofs.Belows.{first_no, first_none, first_at, first_more, first_same}
 use Rattle.book_check.proofs.Bits.{count_same, count_past}
 use Rattle.book_check.proofs.Sounds.{sound_parts}
 use Rattle.book_check.proofs.Naming.{names_at, place_there, named_found, before_none, before_more, before_node, before_all}
@@ -72,6 +73,13 @@ stopped_twice m a n i t few h l p q k s b =
     tree_faulty m n _ few h l (node_faulty m n i _ p q.0 k (place_twice m n i t (sym s) (sym (q.1 t) ∙ sym b)))
 
 -- ---- the whole book is scanned
+
+-- `find` over the nodes below the root, for one that is not marked
+pub searched : (a : Named) (root : ℕ) (r : Option ℕ) → MatchOption r ((k : ℕ) → 0 ≤ k → k < root → bit_of a (Child k) ≡ true) (λ n. (0 ≤ n) × (n < root) × (bit_of a (Child n) ≡ false) × ((k : ℕ) → 0 ≤ k → k < n → bit_of a (Child k) ≡ true)) → first_unnamed a root ≡ option_map (at_node 19) r
+searched a root None h = first_no _ root (λ k l. ap (λ b. when (not b) (at_node 19 k)) (h k (omega arith) l))
+searched a root (Some n) h =
+    first_at _ root n (at_node 19 n) (first_no _ n (λ k l. ap (λ b. when (not b) (at_node 19 k)) (h.3 k (omega arith) l)))
+    (ap (λ b. when (not b) (at_node 19 n)) h.2) h.1
 
 pub all_marked : (m : Model) (a : Named) (n : ℕ) → n ≡ node_count m → Scanned m a n → (t : Target) → bit_of a t ≡ is_named m t
 all_marked m a n e s t = s.1 t ∙ before_all m n t e

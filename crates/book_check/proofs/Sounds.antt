@@ -1,47 +1,27 @@
 -- The target of a place that is sound by itself, test by test.
-use Rattle.std.proofs.Common.{◌≡◌, ℕ, ◌+◌, ◌<◌, ◌≤◌, Bool, true, false, not, [], ◌∷◌, Ok, Err, Result, sym, refl, ap, ◌∙◌, arith, Some, None, Option}
-use Rattle.std.proofs.lemmas.Bool.{or_from}
+use Rattle.std.proofs.Common.{◌≡◌, ℕ, Bool, true, false, not, [], ◌∷◌, Ok, Err, Result, sym, refl, ap, ◌∙◌, zero-add, Some, None, Option}
+use Rattle.std.specs.List.{list_any, filter_map, range_with_len}
 use Rattle.refusal.specs.Told.{Told, at_place}
 use Rattle.geometry.specs.Contains.{contains}
 use Rattle.geometry.specs.declared.bounds.Bounds.{Bounds}
 use Rattle.book.specs.Model.{Model, level_of, place_count, place_of}
 use Rattle.book.specs.declared.place.Entry.{Entry}
-use Rattle.book_check.specs.Below.{first_of, some_below}
+use Rattle.book_check.specs.Below.{first_of}
 use Rattle.book_check.specs.Targets.{target_at, target_of, in_book}
 use Rattle.book_check.specs.Sound.{when, unless, one_lower, outside, sticks_out, leaves_box, entry_fault, sound_target, sound_in}
 use Rattle.book_check.specs.declared.target.Target.{Target}
-use Rattle.book_check.proofs.Belows.{some_at, some_more, some_no, some_none}
+use Rattle.book_check.proofs.Belows.{any_below}
 
 -- ---- an entry outside the box
 
-pub is_outside : (m : Model) (b : Bounds) (k j : ℕ) (e : Entry) → Some e ≡ place_of m k j → false ≡ contains b e.bounds → outside b (place_of m k j) ≡ true
-is_outside m b k j e h q = ap (outside b) (sym h) ∙ ap not (sym q)
-
-pub not_outside : (m : Model) (b : Bounds) (k j : ℕ) (e : Entry) → Some e ≡ place_of m k j → true ≡ contains b e.bounds → outside b (place_of m k j) ≡ false
-not_outside m b k j e h q = ap (outside b) (sym h) ∙ ap not (sym q)
-
-pub spoilt_passed : (m : Model) (b : Bounds) (k j : ℕ) → None ≡ place_of m k j → outside b (place_of m k j) ≡ false
-spoilt_passed m b k j h = ap (outside b) (sym h)
-
-pub sticks_out_at : (m : Model) (b : Bounds) (k j : ℕ) (e : Entry) → j < place_count m k → Some e ≡ place_of m k j → false ≡ contains b e.bounds → true ≡ sticks_out m b k
+-- `any` over the entries of a node, spoilt places passed over
+pub any_outside : (m : Model) (b : Bounds) (k : ℕ) → list_any (λ (e : Entry). not (contains b e.bounds)) (filter_map (place_of m k) (range_with_len 0 (place_count m k))) ≡ sticks_out m b k
 unfolding sticks_out
-sticks_out_at m b k j e l h q = sym (some_at (λ i. outside b (place_of m k i)) (place_count m k) j l (is_outside m b k j e h q))
-
-pub filled_within : (m : Model) (b : Bounds) (k j : ℕ) (e : Entry) → some_below (λ i. outside b (place_of m k i)) j ≡ false → Some e ≡ place_of m k j → true ≡ contains b e.bounds → some_below (λ i. outside b (place_of m k i)) (j + 1) ≡ false
-filled_within m b k j e h p q = some_more (λ i. outside b (place_of m k i)) j ∙ or_from _ _ (not_outside m b k j e p q) h
-
-pub spoilt_within : (m : Model) (b : Bounds) (k j : ℕ) → some_below (λ i. outside b (place_of m k i)) j ≡ false → None ≡ place_of m k j → some_below (λ i. outside b (place_of m k i)) (j + 1) ≡ false
-spoilt_within m b k j h p = some_more (λ i. outside b (place_of m k i)) j ∙ or_from _ _ (spoilt_passed m b k j p) h
-
-pub sticks_out_none : (m : Model) (b : Bounds) (k n : ℕ) → some_below (λ i. outside b (place_of m k i)) n ≡ false → place_count m k ≤ n → false ≡ sticks_out m b k
-unfolding sticks_out
-sticks_out_none m b k n h l = sym (some_no (λ i. outside b (place_of m k i)) (place_count m k) (λ j q. some_none (λ i. outside b (place_of m k i)) n j h (omega arith)))
+any_outside m b k =
+    any_below (λ e. not (contains b e.bounds)) (outside b) (place_of m k) refl (λ e. refl) (λ j. outside b (place_of m k j)) 0 (place_count m k)
+    (λ j. ap (λ i. outside b (place_of m k i)) (zero-add j))
 
 -- ---- the tests of a place
-
-pub spoilt_target : (m : Model) (n i : ℕ) → None ≡ place_of m n i → Err (at_place 14 n i) ≡ sound_target m n i
-unfolding sound_target
-spoilt_target m n i h = ap (sound_in m n i) h
 
 -- what the three tests come to
 abbrev by_tests : ℕ → ℕ → Bool → Bool → Bool → Target → Result Target Told
@@ -67,12 +47,12 @@ pub record Sound (m : Model) (n i : ℕ) (t : Target) : Type 0 where
 
 tests_parts : (n i : ℕ) (here low out : Bool) (u t : Target) → by_tests n i here low out u ≡ Ok t → (here ≡ true) × (low ≡ true) × (out ≡ false) × (u ≡ t)
 tests_parts n i true true false u t h = (refl, refl, refl, cc)
-tests_parts n i true true true u t h = absurd (let z : ◌≡◌ {A = ℕ} 0 1 = cc in omega arith)
-tests_parts n i true false out u t h = absurd (let z : ◌≡◌ {A = ℕ} 0 1 = cc in omega arith)
-tests_parts n i false low out u t h = absurd (let z : ◌≡◌ {A = ℕ} 0 1 = cc in omega arith)
+tests_parts n i true true true u t h = absurd cc
+tests_parts n i true false out u t h = absurd cc
+tests_parts n i false low out u t h = absurd cc
 
 parts : (m : Model) (n i : ℕ) (t : Target) (p : Option Entry) → place_of m n i ≡ p → sound_in m n i p ≡ Ok t → Sound m n i t
-parts m n i t None e h = absurd (let z : ◌≡◌ {A = ℕ} 0 1 = cc in omega arith)
+parts m n i t None e h = absurd cc
 parts m n i t (Some f) e h =
     let u = target_of m n f in
     let r = tests_parts n i (in_book m u) (one_lower m n u) (leaves_box m f.bounds u) u t h in

@@ -60,8 +60,8 @@ agree false false = inl refl
 
 target_parts : (a b : Bool) (t k : ℕ) → target a t ≡ target b k → (a ≡ b) × (t ≡ k)
 target_parts true true t k h = (refl, cc)
-target_parts true false t k h = absurd (let z : ◌≡◌ {A = ℕ} 0 1 = cc in omega arith)
-target_parts false true t k h = absurd (let z : ◌≡◌ {A = ℕ} 0 1 = cc in omega arith)
+target_parts true false t k h = absurd cc
+target_parts false true t k h = absurd cc
 target_parts false false t k h = (refl, cc)
 
 chosen : (a b : Bool) (xs : List ℕ) → a ≡ b → cond a (cond b xs []) (cond b [] xs) ≡ xs

@@ -4,7 +4,7 @@ use Rattle.geometry.specs.Within.{Within}
 use Rattle.book.specs.Model.{Model, pick_limit, level_of, place_count, place_of}
 use Rattle.book.specs.declared.place.Entry.{Entry}
 use Rattle.book_check.specs.Targets.{target_of, root_of}
-use Rattle.book_check.specs.Totals.{total_places}
+use Rattle.book.specs.Totals.{total_places}
 use Rattle.book_check.specs.declared.target.Target.{Target}
 use Rattle.book_check.specs.declared.target.Target.TheVariants.{Pick, Child}
 

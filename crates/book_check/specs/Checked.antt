@@ -4,7 +4,7 @@ use Rattle.refusal.specs.Told.{Told, plain, at_node, at_place}
 use Rattle.book.specs.Model.{Model, node_count, place_count}
 use Rattle.book_check.specs.Below.{first_of, first_below}
 use Rattle.book_check.specs.Targets.{root_of}
-use Rattle.book_check.specs.Totals.{total_places}
+use Rattle.book.specs.Totals.{total_places}
 use Rattle.book_check.specs.Names.{named_before, is_named, picks_named}
 use Rattle.book_check.specs.Sound.{when, unless, sound_target}
 use Rattle.book_check.specs.declared.target.Target.{Target}

@@ -1,6 +1,5 @@
 pub mod Below
 pub mod Targets
-pub mod Totals
 pub mod Names
 pub mod Sound
 pub mod Checked

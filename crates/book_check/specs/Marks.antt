@@ -1,7 +1,6 @@
 -- Numbers marked by one bit each in words of 64 bits.
-use Rattle.std.specs.Prelude.{ℕ, ◌/◌, ◌%◌, ◌^◌, ◌<◌, Bool, not, List, Some, None, Option, ◌==◌, slice_index}
-use Rattle.refusal.specs.Told.{Told, tree_told, at_node}
-use Rattle.refusal.specs.declared.hands.TreeFault.{TreeFault}
+use Rattle.std.specs.Prelude.{ℕ, ◌/◌, ◌%◌, ◌^◌, ◌<◌, Bool, not, List, Option, ◌==◌, slice_index}
+use Rattle.refusal.specs.Told.{Told, at_node}
 use Rattle.book_check.specs.Below.{first_below}
 use Rattle.book_check.specs.Sound.{when}
 use Rattle.book_check.specs.declared.target.Target.{Target}
@@ -25,7 +24,3 @@ HasBit (Child k) = k < 512
 -- 19 at the lowest node below the root whose bit is not set
 abbrev pub first_unnamed : Named → ℕ → Option Told
 first_unnamed a root = first_below (λ k. when (not (bit_of a (Child k))) (at_node 19 k)) root
-
-abbrev pub fault_told : Option TreeFault → Option Told
-fault_told (Some fault) = Some (tree_told fault)
-fault_told None = None

@@ -5,7 +5,7 @@ use Rattle.geometry.specs.Within.{Within}
 use Rattle.book.specs.Model.{Model, Node, node_count, pick_limit, level_of, place_count}
 use Rattle.book.specs.declared.place.Entry.{Entry}
 use Rattle.book_check.specs.Targets.{root_of}
-use Rattle.book_check.specs.Totals.{total_places}
+use Rattle.book.specs.Totals.{total_places}
 use Rattle.book_check.specs.Accepted.{Stands}
 
 -- the targets of the entries, spoilt places passed over

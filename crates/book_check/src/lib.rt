@@ -7,4 +7,3 @@ mod named;
 pub mod scan;
 mod sound;
 pub mod target;
-mod totals;

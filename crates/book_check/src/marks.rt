@@ -4,6 +4,7 @@ ghost use Rattle.std.specs.Prelude.{◌≡◌, ℕ, ◌*◌, ◌/◌, ◌<◌, �
 ghost use Rattle.book_check.specs.Below.{count_below};
 ghost use Rattle.book_check.specs.Marks.{marked};
 
+#[tactic(auto, unfolding(crate::specs::Marks::marked))]
 pub(crate) fn is_marked(words: &[u64], number: u16) -> bool
     requires { number / 64 < length words.now }
     ensures { result ≡ marked words.now number }
@@ -11,6 +12,7 @@ pub(crate) fn is_marked(words: &[u64], number: u16) -> bool
     (words[number as usize / 64] >> (number % 64)) % 2 == 1
 }
 
+#[tactic(auto, using(crate::proofs::Bits::mark_after))]
 pub(crate) fn mark(words: &mut [u64], number: u16)
     requires { number / 64 < length words.old }
     ensures { (k : ℕ) → marked words.new k ≡ (k == number) || marked words.old k }
@@ -23,9 +25,5 @@ pub(crate) fn count_marked(words: &[u64]) -> u16
     requires { length words.now ≤ 32 }
     ensures { result ≡ count_below (marked words.now) (length words.now * 64) }
 {
-    let mut total = 0;
-    for word in words {
-        total += word.count_ones() as u16;
-    }
-    total
+    words.iter().map(|word| word.count_ones() as u16).sum()
 }

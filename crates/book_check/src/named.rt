@@ -11,6 +11,7 @@ use crate::marks::{count_marked, is_marked, mark};
 use crate::target::Target;
 
 /// One bit a pick and one bit a node.
+// A form of the project: fixed words of 64 bits, nothing on a heap.
 #[derive(Clone, Copy)]
 pub struct Named {
     picks: [u64; 32],

@@ -2,7 +2,8 @@
 
 ghost use Rattle.std.specs.Prelude.{◌≡◌, ℕ, ◌≤◌, Ok};
 ghost use Rattle.refusal.specs.Told.{answered, tree_told};
-ghost use Rattle.book_check.specs.Marks.{first_unnamed, fault_told};
+ghost use Rattle.book_check.specs.Marks.{first_unnamed};
+ghost use Rattle.book_check.specs.Sound.{unless};
 ghost use Rattle.book_check.specs.Names.{picks_named};
 ghost use Rattle.book_check.specs.Tree.{Tree};
 ghost use Rattle.book_check.specs.Accepted.{Accepted, Exactly};
@@ -11,24 +12,22 @@ ghost use Rattle.book_check.specs.Checked.{checked};
 use crate::named::Named;
 use crate::sound::sound_target;
 use crate::target::{Target, root_of};
-use crate::totals::total_places;
 use book::book::Book;
+use book::totals::total_places;
 use refusal::hands::TreeFault;
 
 /// A browse has waiting places for this many entries.
-const MOST_PLACES: u16 = 2048;
+const MOST_PLACES: usize = 2048;
 
-/// The lowest node below the root that is not among the named.
-fn first_unnamed(named: &Named, root: u16) -> Option<TreeFault>
+/// Each node below the root is among the named, or else the lowest that is not is told.
+fn all_named(named: &Named, root: u16) -> Result<(), TreeFault>
     requires { root ≤ 512 }
-    ensures { fault_told result ≡ first_unnamed named.now root }
+    ensures { answered tree_told result ≡ unless (first_unnamed named.now root) tt }
 {
-    for node in 0..root {
-        if !named.has(Target::Child(node)) {
-            return Some(TreeFault::Unnamed { node });
-        }
+    match (0..root).find(|node| !named.has(Target::Child(*node))) {
+        Some(node) => Err(TreeFault::Unnamed { node }),
+        None => Ok(()),
     }
-    None
 }
 
 /// Accepts the book with the number of different picks that its entries name, or tells its first fault, lowest node
@@ -41,30 +40,25 @@ pub fn check<B: Book>(book: &B) -> Result<u16, TreeFault>
     if total_places(book) > MOST_PLACES {
         return Err(TreeFault::TooManyPlaces);
     }
-    let nodes = book.node_count();
     let root = root_of(book);
     let mut named = Named::none();
-    let fault = 'scan: {
-        for node in 0..nodes {
+    // A form of the project: nested loops over nodes and places, left by a label with the fault.
+    let scanned = 'scan: {
+        for node in 0..book.node_count() {
             let places = book.place_count(node);
             if node < root && places == 0 {
-                break 'scan Some(TreeFault::NoPlaces { node });
+                break 'scan Err(TreeFault::NoPlaces { node });
             }
             for place in 0..places {
-                let target = match sound_target(book, node, place) {
-                    Ok(target) => target,
-                    Err(fault) => break 'scan Some(fault),
-                };
+                let target = sound_target(book, node, place)?;
                 if named.has(target) {
-                    break 'scan Some(TreeFault::NamedTwice { node, place });
+                    break 'scan Err(TreeFault::NamedTwice { node, place });
                 }
                 named.add(target);
             }
         }
-        first_unnamed(&named, root)
+        all_named(&named, root)
     };
-    match fault {
-        Some(fault) => Err(fault),
-        None => Ok(named.pick_count()),
-    }
+    scanned?;
+    Ok(named.pick_count())
 }

@@ -20,18 +20,12 @@ fn one_lower<B: Book>(book: &B, node: u16, target: Target) -> bool
 }
 
 /// Whether an entry of the node lies outside the box. Spoilt places are passed over.
-#[tactic(auto, using(crate::proofs::Sounds::sticks_out_at, crate::proofs::Sounds::filled_within, crate::proofs::Sounds::spoilt_within))]
 fn sticks_out<B: Book>(book: &B, bounds: &Bounds, node: u16) -> bool
     ensures { result ≡ sticks_out (B.Book.model book.now) bounds.now node }
 {
-    for index in 0..book.place_count(node) {
-        if let Some(entry) = book.place(node, index) {
-            if !bounds.contains(&entry.bounds) {
-                return true;
-            }
-        }
-    }
-    false
+    (0..book.place_count(node))
+        .filter_map(|index| book.place(node, index))
+        .any(|entry| !bounds.contains(&entry.bounds))
 }
 
 fn leaves_box<B: Book>(book: &B, bounds: &Bounds, target: Target) -> bool
@@ -44,6 +38,7 @@ fn leaves_box<B: Book>(book: &B, bounds: &Bounds, target: Target) -> bool
 }
 
 /// What the place names, unless something is wrong with it whatever other places name.
+#[tactic(auto, unfolding(crate::specs::Sound::sound_target))]
 pub(crate) fn sound_target<B: Book>(book: &B, node: u16, place: u8) -> Result<Target, TreeFault>
     ensures { answered tree_told result ≡ sound_target (B.Book.model book.now) node place }
 {

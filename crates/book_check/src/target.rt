@@ -6,7 +6,7 @@ ghost use Rattle.book_check.specs.Targets.{target_at, in_book, root_of};
 use book::book::Book;
 
 /// A pick in a leaf, a child above that.
-#[derive(Clone, Copy)]
+#[derive(Clone, Copy, PartialEq, Eq, Debug)]
 pub enum Target {
     Pick(u16),
     Child(u16),

@@ -10,7 +10,7 @@ use Rattle.book.specs.declared.kind.Kind.TheVariants.{CasingTop, Perforation, Ma
 use Rattle.book.specs.declared.place.Entry.{Entry}
 use Rattle.book.specs.Model.{Model, BookShape}
 use Rattle.book_check.specs.Below.{count_below}
-use Rattle.book_check.specs.Totals.{total_places}
+use Rattle.book.specs.Totals.{total_places}
 use Rattle.book_check.specs.Names.{names, named_before, is_named, picks_named}
 use Rattle.book_check.specs.Sound.{sticks_out, sound_target}
 use Rattle.book_check.specs.Checked.{place_fault, node_fault, tree_fault, checked}
@@ -78,7 +78,7 @@ replies m = replies_from m far (opening m)
 
 -- the check accepts it, so the law speaks of it
 checks : checked small ≡ Ok 4
-unfolding span_at contains checked tree_fault node_fault place_fault sound_target sticks_out names named_before is_named picks_named count_below total_places
+unfolding span_at contains checked tree_fault node_fault place_fault sound_target sticks_out names named_before is_named picks_named count_below
 checks = refl
 
 accepted : Accepted small

@@ -10,7 +10,8 @@ use Rattle.book.specs.Model as book
 use Rattle.book.specs.declared.place.Entry.{Entry}
 use Rattle.book_check.specs.declared.target.Target.TheVariants.{Pick as PickTarget, Child}
 use Rattle.book_check.specs.Targets.{target_at, root_of}
-use Rattle.book_check.specs.Totals.{total_places}
+use Rattle.book.specs.Totals.{total_places}
+use Rattle.book.proofs.Places.{places_summed}
 use Rattle.book_check.specs.Accepted.{Accepted, Parent, Stands}
 use Rattle.search.specs.Tree.{Tree, below, nodes}
 use Rattle.search.proofs.Lists.{total, Alike, one, total_joined, total_none, total_same, count_by_total, total_sum_by, alike_length, all_every}
@@ -171,6 +172,5 @@ module _ (m : Model) (far : Far) (acc : Accepted m) where
         omega (arith, length-append (things_in far nd) (flat_map (things_in far) nds), length_things far (class_at nd.level) nd.places, few_named nds)
 
     pub few_met : length walked ≤ 2049
-    unfolding total_places
     few_met =
-        omega (arith, alike_length walked (all_things m far) all_met, few_named m.nodes, total_sum_by (λ nd. length nd.places) m.nodes, acc.few)
+        omega (arith, places_summed m.nodes, alike_length walked (all_things m far) all_met, few_named m.nodes, total_sum_by (λ nd. length nd.places) m.nodes, acc.few)

@@ -8,11 +8,11 @@ use Rattle.loaded.specs.Decode.{node_section, entry_section, pick_section, three
 use Rattle.makes.specs.Join.{joined}
 use Rattle.makes.specs.Sixteens.{by_sixteens}
 use Rattle.book_check.specs.Checked.{tree_fault, checked}
-use Rattle.book_check.specs.Totals.{total_places}
+use Rattle.book.specs.Totals.{total_places}
 use Rattle.browse.specs.Broken.{can_open}
 use Rattle.browse.specs.Browse.{next_of}
 use Rattle.cases.proofs.worked_cases.Goals as goal
 
 pub returns-clause-hold : goal.returns-clause-hold
-unfolding digits span_at euclidean manhattan chessboard bytes_of count_in records_in node_section entry_section pick_section three_sections decode can_open next_of by_sixteens joined total_places tree_fault checked
+unfolding digits span_at euclidean manhattan chessboard bytes_of count_in records_in node_section entry_section pick_section three_sections decode can_open next_of by_sixteens joined tree_fault checked
 returns-clause-hold c = refl
