@@ -1,5 +1,5 @@
 -- The target of a place that is sound by itself, test by test.
-use Rattle.std.proofs.Common.{◌≡◌, ℕ, Bool, true, false, not, [], ◌∷◌, Ok, Err, Result, sym, refl, ap, ◌∙◌, zero-add, Some, None, Option}
+use Rattle.std.proofs.Common.{◌≡◌, ℕ, Bool, true, false, not, [], ◌∷◌, Ok, Result, sym, refl, ap, ◌∙◌, zero-add, Some, None, Option}
 use Rattle.std.specs.List.{list_any, filter_map, range_with_len}
 use Rattle.refusal.specs.Told.{Told, at_place}
 use Rattle.geometry.specs.Contains.{contains}

@@ -12,12 +12,12 @@ pub returns-in-Some : goal.returns-in-Some
 returns-in-Some c =
     let a = c.args.named.now in
     let found = first_from_Range _ _ _ _ (λ k. bit_of a (Child k) ≡ false) (λ k. bit_of a (Child k) ≡ true) c.find.ensures.ran
-        (λ x q k. search (rules, tests)) (λ x q k. (search rules, search (rules, tests))) in
+    (λ x q k. search (rules, tests)) (λ x q k. (search rules, search (rules, tests))) in
     sym (ap (λ f. unless f tt) (searched a c.args.root _ found ∙ ap (option_map (at_node 19)) c.in-Some.is))
 
 pub returns-in-None : goal.returns-in-None
 returns-in-None c =
     let a = c.args.named.now in
     let found = first_from_Range _ _ _ _ (λ k. bit_of a (Child k) ≡ false) (λ k. bit_of a (Child k) ≡ true) c.find.ensures.ran
-        (λ x q k. search (rules, tests)) (λ x q k. (search rules, search (rules, tests))) in
+    (λ x q k. search (rules, tests)) (λ x q k. (search rules, search (rules, tests))) in
     sym (ap (λ f. unless f tt) (searched a c.args.root _ found ∙ ap (option_map (at_node 19)) c.in-None.is))

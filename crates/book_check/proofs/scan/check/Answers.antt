@@ -60,7 +60,7 @@ returns-in_err-target g c =
     let e : c.from_residual.result ≡ Err fault = p.1 ∙ ap Err p.2 in
     let f = fertile_from m n c.root_of-root.result c.place_count-places.result c.root_of-root.ensures c.place_count-places.ensures (elim c.else-node-root.either [ inl p ↦ inl p.1 | inr h ↦ inr (omega arith) ]) in
     let stopped = stopped_unsound m c.loop-place.named n c.loop-place.place _ few c.loop-node.invariant.0 (omega (arith, c.node_count-node-end.ensures))
-        f c.loop-place.invariant.1 (omega (arith, c.place_count-places.ensures)) c.in_err-target.ensures in
+    f c.loop-place.invariant.1 (omega (arith, c.place_count-places.ensures)) c.in_err-target.ensures in
     let answer = ap (answered tree_told) e ∙ refused m _ stopped in
     record { answer = answer; accepts = answer_exactly m c.from_residual.result answer; tree = answer_tree m c.from_residual.result answer }
 
