@@ -4,7 +4,8 @@ ghost use Rattle.std.specs.Prelude.{◌≡◌, Bool};
 ghost use Rattle.queue.specs.Order.{TotalOrder, turned};
 ghost use Rattle.queue.specs.Orders.{order_by, turned_order};
 
-/// An element with a total order: of any two that differ, exactly one precedes the other.
+/// An element with a total order: of any two that differ, exactly one precedes the other. `Ord` lets two that differ be
+/// equal, so it is not asked for; a type that derives it can answer by `self < other`.
 pub trait Ordered {
     ghost before: { Self → Self → Bool };
 

@@ -6,7 +6,7 @@ use crate::heap;
 use crate::order::{Ordered, Reversed};
 use std::test::Fail;
 
-#[derive(Clone, Copy)]
+#[derive(Clone, Copy, PartialEq, Eq, PartialOrd, Ord, Debug)]
 struct Depth(u32);
 
 impl Ordered for Depth {
@@ -15,7 +15,7 @@ impl Ordered for Depth {
     ghost total = { Prim.search rules };
 
     fn precedes(&self, other: &Depth) -> bool {
-        self.0 < other.0
+        self < other
     }
 }
 
