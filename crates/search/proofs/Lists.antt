@@ -1,12 +1,12 @@
 -- Sums over lists, and what holds of each element of a list made of others.
 use Rattle.std.proofs.Common.{◌≡◌, ℕ, ◌+◌, Bool, true, false, cond, List, [], ◌∷◌, ◌++◌, map, length, sum_by, count_by, filter, sym, refl, ap, ◌∙◌, arith}
+pub use mathlib.Core.List.{map-map as map_map}
 use Rattle.std.specs.List.{ContainsAt as Has, flat_map, AllByRecursion as All}
 use Rattle.std.proofs.ByRecursion.{All-append}
 use Rattle.std.proofs.lemmas.List.{length-map, get_or-map}
 use Rattle.std.proofs.lemmas.List.Sums.{sum_by-cons}
-use Rattle.std.proofs.lemmas.List.Sorted.{sum_by-IsPermutation}
-use Rattle.std.specs.List.Sorted.{IsPermutation}
 
+-- It computes by cases, which `sum_by`, a fold from the front, does not.
 abbrev pub total : {X : Type 0} → (X → ℕ) → List X → ℕ
 total f [] = 0
 total f (x ∷ xs) = f x + total f xs
@@ -73,9 +73,6 @@ pub total_sum_by : {X : Type 0} (f : X → ℕ) (xs : List X) → total f xs ≡
 total_sum_by f [] = refl
 total_sum_by f (x ∷ xs) = ap (λ n. f x + n) (total_sum_by f xs) ∙ sym (sum_by-cons f x xs)
 
-pub alike_shuffled : {X : Type 0} (xs ys : List X) → IsPermutation xs ys → Alike xs ys
-alike_shuffled xs ys h f = total_sum_by f xs ∙ sym (sum_by-IsPermutation f xs ys h) ∙ sym (total_sum_by f ys)
-
 -- what holds of each element
 
 pub all_left : {X : Type 0} (P : X → Type 0) (xs ys : List X) → All P (xs ++ ys) → All P xs
@@ -102,20 +99,12 @@ pub all_every : {X : Type 0} (P : X → Type 0) → ((x : X) → P x) → (xs : 
 all_every P f [] = tt
 all_every P f (x ∷ xs) = (f x, all_every P f xs)
 
-pub all_unmap : {X Y : Type 0} (P : Y → Type 0) (f : X → Y) (xs : List X) → All P (map f xs) → All (λ x. P (f x)) xs
-all_unmap P f [] h = tt
-all_unmap P f (x ∷ xs) h = (h.0, all_unmap P f xs h.1)
-
 pub joined_same : {X Y : Type 0} (f g : X → List Y) (xs : List X) → All (λ x. f x ≡ g x) xs → flat_map f xs ≡ flat_map g xs
 joined_same f g [] h = refl
 joined_same f g (x ∷ xs) h = λ i. h.0 i ++ joined_same f g xs h.1 i
 
 pub has_map : {X Y : Type 0} (f : X → Y) (xs : List X) (x : X) → Has xs x → Has (map f xs) (f x)
 has_map f xs x h = (h.0, omega (arith, h.1, length-map xs f), λ d. get_or-map f xs h.0 x d h.1 ∙ ap f (h.2 x))
-
-pub map_map : {X Y Z : Type 0} (g : Y → Z) (f : X → Y) (xs : List X) → map g (map f xs) ≡ map (λ x. g (f x)) xs
-map_map g f [] = refl
-map_map g f (x ∷ xs) = ap (λ zs. g (f x) ∷ zs) (map_map g f xs)
 
 pub map_same : {X Y : Type 0} (f g : X → Y) → ((x : X) → f x ≡ g x) → (xs : List X) → map f xs ≡ map g xs
 map_same f g h [] = refl

@@ -25,22 +25,6 @@ module _ {X : Type 0} (before : X → X → Bool) where
   pub all_sorted : (P : X → Type 0) (xs : List X) → All P xs → All P (sorted before xs)
   all_sorted P xs h = all_inserts P xs [] h tt
 
-  all_uninsert : (P : X → Type 0) (x : X) (ys : List X) → All P (insert before x ys) → P x × All P ys
-  all_uninsert P x [] = λ h. (h.0, tt)
-  all_uninsert P x (y ∷ ys) =
-      cond_both (before x y) (x ∷ y ∷ ys) (y ∷ insert before x ys) (λ zs. All P zs → P x × All P (y ∷ ys)) (λ _ h. (h.0, h.1))
-      (λ _ h. let r = all_uninsert P x ys h.1 in (r.0, (h.0, r.1)))
-
-  all_uninserts : (P : X → Type 0) (xs ys : List X) → All P (inserts before xs ys) → All P xs × All P ys
-  all_uninserts P [] ys h = (tt, h)
-  all_uninserts P (x ∷ xs) ys h =
-      let r = all_uninserts P xs (insert before x ys) h in
-      let q = all_uninsert P x ys r.1 in
-      ((q.0, r.0), q.1)
-
-  pub all_unsorted : (P : X → Type 0) (xs : List X) → All P (sorted before xs) → All P xs
-  all_unsorted P xs h = (all_uninserts P xs [] h).0
-
   pub total_insert : (f : X → ℕ) (x : X) (ys : List X) → total f (insert before x ys) ≡ f x + total f ys
   total_insert f x [] = refl
   total_insert f x (y ∷ ys) =
