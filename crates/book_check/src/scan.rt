@@ -40,11 +40,12 @@ pub fn check<B: Book>(book: &B) -> Result<u16, TreeFault>
     if total_places(book) > MOST_PLACES {
         return Err(TreeFault::TooManyPlaces);
     }
+    let nodes = book.node_count();
     let root = root_of(book);
     let mut named = Named::none();
     // A form of the project: nested loops over nodes and places, left by a label with the fault.
     let scanned = 'scan: {
-        for node in 0..book.node_count() {
+        for node in 0..nodes {
             let places = book.place_count(node);
             if node < root && places == 0 {
                 break 'scan Err(TreeFault::NoPlaces { node });

@@ -59,7 +59,7 @@ returns-in_err-target g c =
     let p = err_from_is_err_and c.from_residual.result c.from_residual.ensures.1 in
     let e : c.from_residual.result ≡ Err fault = p.1 ∙ ap Err p.2 in
     let f = fertile_from m n c.root_of-root.result c.place_count-places.result c.root_of-root.ensures c.place_count-places.ensures (elim c.else-node-root.either [ inl p ↦ inl p.1 | inr h ↦ inr (omega arith) ]) in
-    let stopped = stopped_unsound m c.loop-place.named n c.loop-place.place _ few c.loop-node.invariant.0 (omega (arith, c.node_count-node-end.ensures))
+    let stopped = stopped_unsound m c.loop-place.named n c.loop-place.place _ few c.loop-node.invariant.0 (omega (arith, c.node_count-nodes.ensures))
     f c.loop-place.invariant.1 (omega (arith, c.place_count-places.ensures)) c.in_err-target.ensures in
     let answer = ap (answered tree_told) e ∙ refused m _ stopped in
     record { answer = answer; accepts = answer_exactly m c.from_residual.result answer; tree = answer_tree m c.from_residual.result answer }
@@ -74,16 +74,16 @@ returns-in_err-scanned g c =
     elim c.loop-node-test.branch [
       | then-loop-node-test+then-node-root+then-places-eq0 w ↦
           ap (answered tree_told) w.scanned-is
-          ∙ sym (ap (λ f. unless f tt) (stopped_barren m n few c.loop-node.invariant.0 (omega (arith, c.node_count-node-end.ensures, w.loop-node-test.true)) (omega (arith, c.root_of-root.ensures, w.if-node-root.true)) (omega (arith, w.place_count-places.ensures, w.if-places-eq0.true))))
+          ∙ sym (ap (λ f. unless f tt) (stopped_barren m n few c.loop-node.invariant.0 (omega (arith, c.node_count-nodes.ensures, w.loop-node-test.true)) (omega (arith, c.root_of-root.ensures, w.if-node-root.true)) (omega (arith, w.place_count-places.ensures, w.if-places-eq0.true))))
       | then-loop-node-test+else-node-root+then-loop-place-test+in_ok-target+then-has w ↦
           ap (answered tree_told) w.scanned-is
-          ∙ sym (ap (λ f. unless f tt) (stopped_twice m w.loop-place.named n w.loop-place.place w.in_ok-target.target few c.loop-node.invariant.0 (omega (arith, c.node_count-node-end.ensures, w.loop-node-test.true))
+          ∙ sym (ap (λ f. unless f tt) (stopped_twice m w.loop-place.named n w.loop-place.place w.in_ok-target.target few c.loop-node.invariant.0 (omega (arith, c.node_count-nodes.ensures, w.loop-node-test.true))
           (fertile_from m n c.root_of-root.result w.place_count-places.result c.root_of-root.ensures w.place_count-places.ensures (elim w.else-node-root.either [ inl p ↦ inl p.1 | inr h ↦ inr (omega arith) ]))
           w.loop-place.invariant.1 (omega (arith, w.place_count-places.ensures, w.loop-place-test.true)) w.in_ok-target.ensures w.if-has.ensures))
       | else-loop-node-test w ↦
           ap (answered tree_told) w.scanned-is ∙ w.all_named-scanned.ensures
           ∙ ap (λ r. unless (first_unnamed c.loop-node.named r) tt) c.root_of-root.ensures
-          ∙ ap (λ f. unless f tt) (scanned_through m c.loop-node.named n few (omega (arith, c.node_count-node-end.ensures, w.loop-node-test.false)) c.loop-node.invariant)
+          ∙ ap (λ f. unless f tt) (scanned_through m c.loop-node.named n few (omega (arith, c.node_count-nodes.ensures, w.loop-node-test.false)) c.loop-node.invariant)
     ] in
     let p = err_from_is_err_and c.from_residual-in_err-scanned.result c.from_residual-in_err-scanned.ensures.1 in
     let e : c.from_residual-in_err-scanned.result ≡ Err c.in_err-scanned.field-0.0 = p.1 ∙ ap Err p.2 in
@@ -101,7 +101,7 @@ returns g c =
       | then-loop-node-test+then-node-root+then-places-eq0 w ↦ absurd (cc (w.scanned-is, c.in_ok-scanned.was))
       | then-loop-node-test+else-node-root+then-loop-place-test+in_ok-target+then-has w ↦ absurd (cc (w.scanned-is, c.in_ok-scanned.was))
       | else-loop-node-test w ↦
-          let end : n ≡ node_count m = omega (arith, c.node_count-node-end.ensures, w.loop-node-test.false) in
+          let end : n ≡ node_count m = omega (arith, c.node_count-nodes.ensures, w.loop-node-test.false) in
           let none : tree_fault m ≡ None =
           sym (scanned_through m a n few end c.loop-node.invariant)
           ∙ ap (first_unnamed a) (sym c.root_of-root.ensures)
