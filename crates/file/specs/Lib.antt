@@ -1,3 +1,3 @@
 pub mod Encode
-pub mod Put
+pub mod Pen
 pub mod WriteOut

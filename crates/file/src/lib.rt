@@ -4,6 +4,6 @@
 
 mod entries;
 mod nodes;
+mod pen;
 mod picks;
-mod put;
 pub mod write_out;

@@ -9,6 +9,7 @@ ghost use Rattle.refusal.specs.Told.{answered, told};
 
 use crate::entries::put_entries;
 use crate::nodes::put_nodes;
+use crate::pen::Pen;
 use crate::picks::put_picks;
 use book::book::Book;
 use book::spoilt::first_spoilt;
@@ -25,9 +26,9 @@ fn file_length<B: Book>(book: &B, entries: u16) -> usize
     requires unspoilt { None ≡ first_spoilt (B.Book.model book.now) }
     ensures { result ≡ length (encode (B.Book.model book.now)) }
 {
-    let nodes = book.node_count() as usize;
-    let picks = book.pick_limit() as usize;
-    (2 + 4 * nodes) + (2 + 26 * entries as usize) + (2 + picks)
+    let nodes = usize::from(book.node_count());
+    let picks = usize::from(book.pick_limit());
+    (2 + 4 * nodes) + (2 + 26 * usize::from(entries)) + (2 + picks)
 }
 
 /// Puts the book into `out` in the file form, and answers the length. Nothing is written before all tests are passed.
@@ -46,7 +47,9 @@ pub fn write_out<B: Book>(book: &B, out: &mut [u8]) -> Result<usize, Refusal>
     if out.len() < file_length(book, entries) {
         return Err(Refusal::Slice(SliceFault::TooShort));
     }
-    let at = put_nodes(book, out, 0);
-    let at = put_entries(book, entries, out, at);
-    Ok(put_picks(book, out, at))
+    let mut pen = Pen::new(out);
+    put_nodes(book, &mut pen);
+    put_entries(book, entries, &mut pen);
+    put_picks(book, &mut pen);
+    Ok(pen.written())
 }

@@ -1,33 +1,27 @@
-use Rattle.std.proofs.Common.{◌<◌, ◌≤◌, refl, arith, rules}
-use Rattle.std.proofs.lemmas.List.{at_drop_all}
+use Rattle.std.proofs.Common.{◌<◌, refl, arith, rules}
 use Rattle.book.specs.Model.{node_count, node_of, place_count}
-use Rattle.file.specs.Encode.{node_record, node_records}
+use Rattle.file.specs.Encode.{node_record}
+use Rattle.file.proofs.Bytes.{length_bytes_of}
 use Rattle.file.proofs.Lengths.{length_node_record}
-use Rattle.file.proofs.Placing.{left_room, left_more, left_none}
+use Rattle.file.proofs.Pens.{left_room, left_more}
 use Rattle.file.proofs.Records.{nodes_next, places_next}
 use Rattle.file.proofs.nodes.put_node_records.Goals as goal
 
-pub put_node-at-requires : goal.put_node-at-requires
-put_node-at-requires g c =
+pub put_node-requires : goal.put_node-requires
+put_node-requires g c =
     let m = g.B.Book.model c.args.book.now in
     let n = c.loop-node.node in
     let within : n < node_count m = omega arith in
     let first = c.loop-node.first in
     let next = nodes_next first (place_count m n) m.nodes n within refl in
-    omega (arith, left_room c.loop-node.invariant.0 (node_record first (node_of m n)) _ next, length_node_record first (node_of m n))
+    simp length_bytes_of (omega (arith, left_room c.loop-node.invariant.0 (node_record first (node_of m n)) _ next, length_node_record first (node_of m n)))
 
 pub loop-node-preserved : goal.loop-node-preserved
 loop-node-preserved g c =
     let m = g.B.Book.model c.args.book.now in
     let n = c.loop-node.node in
     let within : n < node_count m = omega arith in
-    let next = nodes_next c.loop-node.first c.place_count.result m.nodes n within c.place_count.ensures in (
+    let next = nodes_next c.loop-node.first c.from-first.result m.nodes n within (search rules) in (
       left_more c.loop-node.invariant.0 (node_record c.loop-node.first (node_of m n)) _ next (search rules),
-      omega (arith, c.place_count.ensures, c.loop-node.invariant.1, places_next m.nodes n within),
+      omega (arith, c.from-first.ensures, c.place_count.ensures, c.loop-node.invariant.1, places_next m.nodes n within),
     )
-
-pub returns : goal.returns
-returns g c =
-    let m = g.B.Book.model c.args.book.now in
-    let past : node_count m ≤ c.loop-node.node = omega arith in
-    left_none c.loop-node.invariant.0 (at_drop_all (node_records c.loop-node.first) m.nodes c.loop-node.node past)
