@@ -1,4 +1,2 @@
 pub mod Cases
 pub mod Reading
-pub mod Showing
-pub mod Writing

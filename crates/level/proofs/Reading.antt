@@ -1,5 +1,5 @@
 -- What is read of a text, and that a level's own text reads as that level.
-use Rattle.std.proofs.Common.{◌≡◌, ℕ, zero, suc, ◌+◌, ◌-◌, ◌*◌, ◌/◌, ◌%◌, ◌^◌, ◌<◌, ◌≤◌, Bool, true, false, cond, ◌&&◌, eqb, List, [], ◌∷◌, ◌++◌, length, get_or, take, drop, ℤ, pos, negsuc, neg_ℤ, Ok, Err, decimal, Decides, Result, sym, refl, ap, ◌∙◌, subst, pow-suc, add-one, arith, lit<, w32, SFits}
+use Rattle.std.proofs.Common.{◌≡◌, ℕ, zero, suc, ◌+◌, ◌-◌, ◌*◌, ◌/◌, ◌%◌, ◌^◌, ◌<◌, ◌≤◌, Bool, true, false, cond, ◌&&◌, eqb, List, [], ◌∷◌, ◌++◌, length, get_or, drop, ℤ, pos, negsuc, neg_ℤ, Ok, Err, decimal, Decides, Result, sym, refl, ap, ◌∙◌, subst, pow-suc, add-one, arith, lit<, w32, SFits, length-append}
 use native.Mathlib.Nat.{pow-le-pow_right}
 use Rattle.std.specs.Char.{is_ascii_digit}
 use Rattle.std.specs.Str.{bytes_eq}
@@ -9,9 +9,8 @@ use Rattle.std.proofs.lemmas.List.{get_or_append_left, at_drop_more, at_drop_all
 use Rattle.std.proofs.lemmas.Fmt.{decimal_by_steps, decimal_digit, decimal_nonempty, first_decimal, length-decimal-le}
 use Rattle.refusal.specs.Told.{Told, plain}
 use Rattle.level.specs.Range.{is_level}
-use Rattle.level.specs.Write.{hundredths_text, level_text, writes, written}
+use Rattle.level.specs.Write.{hundredths_text, level_text}
 use Rattle.level.specs.Read.{longest_text, with_byte, digits_spell, spelt, reads, TextOf, ReadingLaw, RoundTrip, NoTwoShareAText}
-use Rattle.level.proofs.Writing.{length_hundredths, text_first, room_enough}
 
 -- ---- the digits of a text
 spell_append : (sum : ℕ) (xs ys : List ℕ) → digits_spell sum (xs ++ ys) ≡ digits_spell (digits_spell sum xs) ys
@@ -90,9 +89,8 @@ spelt_text (negsuc n) h =
 
 length_small : (n : ℕ) → n < 100_000_000 → length (hundredths_text n) ≤ 9
 length_small n h =
-    let a = length_hundredths n in
     let b = length-decimal-le 6 (n / 100) (omega arith) (omega arith) (omega arith) in
-    omega arith
+    omega (arith, length-append (decimal (n / 100)) (46 ∷ (48 + n / 10 % 10) ∷ (48 + n % 10) ∷ []))
 
 pub text_short : (x : ℤ) → is_level x ≡ true → length (level_text x) ≤ longest_text
 text_short (pos n) h = omega (arith, length_small n (level_small n h))
@@ -142,18 +140,7 @@ round_trip x h = (reading_law (level_text x)).takes x (h, refl)
 pub no_two_share : NoTwoShareAText
 no_two_share x y h k e = sym (spelt_text x h) ∙ ap spelt e ∙ spelt_text y k
 
--- ---- the answers of `is_text_of` and `read_level`
-pub not_written : (text : List ℕ) (x : ℤ) (refusal : Told) → Err refusal ≡ writes x longest_text → TextOf text x → ⊥
-not_written text x refusal e t =
-    let k = room_enough x longest_text t.0 (text_short x t.0) in
-    let z : ◌≡◌ {A = ℕ} 0 1 = cc in
-    omega arith
-
-pub compared : (text bytes old : List ℕ) (x : ℤ) (n : ℕ) (r : Bool) → Ok n ≡ writes x (length old) → bytes ≡ written x old → Decides r (text ≡ take n bytes) → Decides r (TextOf text x)
-compared text bytes old x n r e w d =
-    let k = text_first x n bytes old e w in
-    (λ h. (k.0, d.0 h ∙ k.1), (λ t. d.1 (t.1 ∙ sym k.1)))
-
+-- ---- the answers of `read_level`
 pub taken : (text : List ℕ) (x : ℤ) → TextOf text x → Ok x ≡ reads text
 taken text x t = sym ((reading_law text).takes x t)
 

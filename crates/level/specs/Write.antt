@@ -1,5 +1,5 @@
 -- The text of a level, and what writing it does.
-use Rattle.std.specs.Prelude.{ℕ, suc, ◌+◌, ◌/◌, ◌%◌, cond, List, [], ◌∷◌, ◌++◌, length, take, drop, ℤ, pos, negsuc, Ok, Err, decimal, Result, nat_le}
+use Rattle.std.specs.Prelude.{ℕ, suc, ◌+◌, ◌/◌, ◌%◌, cond, List, [], ◌∷◌, ◌++◌, length, drop, ℤ, pos, negsuc, Ok, Err, decimal, Result, nat_le}
 use Rattle.refusal.specs.Told.{Told, plain}
 use Rattle.level.specs.Range.{is_level}
 
@@ -27,7 +27,3 @@ leaves (Err refusal) text bytes = bytes
 -- what writing leaves of the bytes
 abbrev pub written : ℤ → List ℕ → List ℕ
 written x bytes = leaves (writes x (length bytes)) (level_text x) bytes
-
--- bytes with a text over them from `at` on
-abbrev pub placed : List ℕ → ℕ → List ℕ → List ℕ
-placed bytes at text = take at bytes ++ (text ++ drop (at + length text) bytes)

@@ -7,4 +7,5 @@ pub mod range;
 pub mod read;
 #[cfg(test)]
 mod tests;
+mod text;
 pub mod write;

@@ -4,13 +4,15 @@ ghost use Rattle.std.specs.Prelude.{◌≡◌, ◌^◌, ◌<◌, ◌≤◌, leng
 ghost use Rattle.refusal.specs.Told.{answered, typing_told};
 ghost use Rattle.level.specs.Read.{longest_text, digits_spell, spelt, reads, TextOf, ReadingLaw, RoundTrip, NoTwoShareAText};
 
-use crate::write::write_level;
+use crate::range::is_level;
+use crate::text::level_text;
 use refusal::hands::TypingFault;
 
 /// No level has a longer text.
 const LONGEST: usize = 10;
 
 /// The number that the digits of `text` spell, whatever stands between them.
+#[tactic(auto, using(crate::proofs::Reading::spell_more, crate::proofs::Reading::spell_all, crate::proofs::Reading::spell_small, crate::proofs::Reading::digit_counts, crate::proofs::Reading::other_passed))]
 fn digits_spell(text: &[u8]) -> u64
     requires { length text.now ≤ longest_text }
     ensures value { result ≡ digits_spell 0 text.now }
@@ -34,18 +36,15 @@ fn candidate(text: &[u8]) -> i64
     if text.starts_with(b"-") { -sum } else { sum }
 }
 
-/// Whether `text` is what `write_level` writes of `level`.
+/// Whether `level` is a level, and `text` its text.
 fn is_text_of(text: &[u8], level: i32) -> bool
     ensures { Decides result (TextOf text.now level) }
 {
-    let mut back = [0; LONGEST];
-    let Ok(size) = write_level(level, &mut back) else {
-        return false;
-    };
-    text == &back[0..size]
+    is_level(level) && level_text(level).as_str().as_bytes() == text
 }
 
 /// Reads a level: takes the texts that `write_level` can give, and no others.
+#[tactic(auto, using(crate::proofs::Reading::taken, crate::proofs::Reading::refused, crate::proofs::Reading::obeys, crate::proofs::Reading::round_trip, crate::proofs::Reading::no_two_share, crate::proofs::Reading::text_short, crate::proofs::Reading::level_fits))]
 pub fn read_level(text: &[u8]) -> Result<i32, TypingFault>
     ensures answer { answered typing_told result ≡ reads text.now }
     ensures law { ReadingLaw text.now (answered typing_told result) }

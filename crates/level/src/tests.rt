@@ -62,7 +62,7 @@ fn left_alone(rt: HostRuntime) {
 
 #[test]
 fn printed(rt: HostRuntime) -> Result<(), Fail> {
-    let top = Level::new(-35)?;
+    let top = Level::try_from(-35)?;
     let line = format!(in rt.alloc(); "top {top} opened")?;
     assert_eq!(rt; line.as_str(), "top -0.35 opened");
     Ok(())

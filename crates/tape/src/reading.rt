@@ -43,7 +43,7 @@ impl fmt::Display for Reading {
 fn top(bounds: &Bounds) -> Result<Level, TypingFault>
     ensures { measured result ≡ measures bounds.now.level.high }
 {
-    Level::new(bounds.level.high)
+    Level::try_from(bounds.level.high)
 }
 
 #[tactic(auto, unfolding(crate::specs::Reading::from_ground))]

@@ -4,6 +4,7 @@ ghost use Rattle.std.specs.Prelude.{Some};
 ghost use Rattle.level.specs.Write.{level_text};
 
 use crate::level::Level;
+use crate::text::level_text;
 use std::fmt;
 
 /// So many hundredths of a foot, in range or not, to be printed as a level is.
@@ -14,12 +15,7 @@ impl fmt::Display for Hundredths {
     ghost output = { λ level. Some (level_text level.0) };
 
     fn fmt<W: fmt::Write>(&self, f: &mut fmt::Formatter<W>) -> fmt::Result {
-        let hundredths = self.0.unsigned_abs();
-        let minus = if self.0 < 0 { "-" } else { "" };
-        let feet = hundredths / 100;
-        let tens = hundredths / 10 % 10;
-        let ones = hundredths % 10;
-        write!(f, "{minus}{feet}.{tens}{ones}")
+        f.write_str(level_text(self.0).as_str())
     }
 }
 
