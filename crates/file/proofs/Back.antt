@@ -1,27 +1,10 @@
 -- Numbers read back from their bytes.
-use Rattle.std.proofs.Common.{◌≡◌, ℕ, zero, suc, ◌+◌, ◌*◌, ◌/◌, ◌%◌, ◌^◌, ◌<◌, List, [], ◌∷◌, ◌++◌, get_or, ℤ, pos, negsuc, ◌≤ℤ◌, sym, ap, ◌∙◌, pow-suc, arith, w32, SFits, to_z, of_z}
-use Rattle.std.proofs.lemmas.Nat.{div_below}
+use Rattle.std.proofs.Common.{◌≡◌, ℕ, ◌+◌, ◌*◌, ◌/◌, ◌%◌, ◌^◌, ◌<◌, List, ◌++◌, get_or, ℤ, pos, negsuc, ◌≤ℤ◌, ap, ◌∙◌, arith, w32, SFits, to_z, of_z}
 use Rattle.std.proofs.lemmas.Int.{ints, to_z-of_z}
 use Rattle.geometry.specs.Range.{least_coordinate, most_coordinate}
 use Rattle.geometry.specs.declared.bounds.Span.{Span}
 use Rattle.file.specs.Encode.{bytes_of, le16, le32}
 use Rattle.file.proofs.Bytes.{twos_complement_is}
-
--- the number that these bytes give, the lowest first
-abbrev pub number_in : List ℕ → ℕ
-number_in [] = 0
-number_in (b ∷ bs) = b + 256 * number_in bs
-
-pub number_back : (k n : ℕ) → n < 256 ^ k → number_in (bytes_of k n) ≡ n
-unfolding bytes_of
-number_back zero n small = omega arith
-number_back (suc k) n small =
-    let less : n / 256 < 256 ^ k = div_below n 256 (256 ^ k) (omega arith) (omega (arith, pow-suc 256 k)) in
-    omega (arith, number_back k (n / 256) less)
-
--- numbers with the same bytes are the same
-pub same_number : (k m n : ℕ) → m < 256 ^ k → n < 256 ^ k → bytes_of k m ≡ bytes_of k n → m ≡ n
-same_number k m n small-m small_n e = sym (number_back k m small-m) ∙ ap number_in e ∙ number_back k n small_n
 
 pub short_back : (n : ℕ) (rest : List ℕ) → n < 2 ^ 16 → get_or (le16 n ++ rest) 0 0 + get_or (le16 n ++ rest) 1 0 * 256 ≡ n
 unfolding bytes_of

@@ -1,17 +1,13 @@
 -- How long the file form and its parts are.
 use Rattle.std.proofs.Common.{◌≡◌, ℕ, suc, ◌+◌, ◌*◌, List, [], ◌∷◌, ◌++◌, length, None, Option, refl, ap, ◌∙◌, arith, length-append, Some}
 use Rattle.std.proofs.lemmas.List.{length-map}
-use Rattle.geometry.specs.declared.bounds.Point.{Point}
 use Rattle.book.specs.declared.place.Entry.{Entry}
 use Rattle.book.specs.Kinds.{number_of}
 use Rattle.book.specs.Model.{Node, Model, node_count, pick_limit}
 use Rattle.book.specs.Spoilt.{spoilt_place, spoilt_node, first_spoilt}
 use Rattle.book.specs.Totals.{places_in, total_places}
-use Rattle.file.specs.Encode.{le16, point_bytes, node_record, node_records, entry_record, place_records, entry_records, pick_records, node_section, entry_section, pick_section, encode}
+use Rattle.file.specs.Encode.{le16, node_record, node_records, entry_record, place_records, entry_records, pick_records, node_section, entry_section, pick_section, encode}
 use Rattle.file.proofs.Bytes.{length_bytes_of}
-
-pub length_point : (p : Point) → length (point_bytes p) ≡ 12
-length_point p = simp (length-append, length_bytes_of)
 
 pub length_node_record : (first : ℕ) (n : Node) → length (node_record first n) ≡ 4
 length_node_record first n = ap (λ k. suc (suc k)) (length_bytes_of 2 first)

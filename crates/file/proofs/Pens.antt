@@ -34,9 +34,6 @@ pub record Left (start : Pen) (whole rest : List ℕ) (now : Pen) : Type 0 where
   pub room : HasRoom now rest
   pub same : wrote now rest ≡ wrote start whole
 
-pub left_first : (start : Pen) (whole : List ℕ) → HasRoom start whole → Left start whole whole start
-left_first start whole room = record { room = room; same = refl }
-
 module _ {start : Pen} {whole rest : List ℕ} {now : Pen} (left : Left start whole rest now) where
   -- the next piece has room
   pub left_room : (ys more : List ℕ) → rest ≡ ys ++ more → HasRoom now ys

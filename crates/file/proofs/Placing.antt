@@ -1,17 +1,10 @@
 -- Bytes put over others.
 use Rattle.std.proofs.Common.{◌≡◌, ℕ, ◌+◌, ◌≤◌, List, [], ◌++◌, length, take, drop, sym, ap, ◌∙◌, append_assoc, arith, length-append, length-drop, length-take}
-use borrow.Rule.Slice.PartMut.{put_mid}
 use Rattle.std.proofs.lemmas.List.{drop-drop, take-append-drop, length-take-le, take_at, drop_at}
 use Rattle.file.specs.Pen.{placed}
 
 pub length_placed : (xs : List ℕ) (at : ℕ) (ys : List ℕ) → at + length ys ≤ length xs → length (placed xs at ys) ≡ length xs
 length_placed xs at ys room = simp (length-append, length-take, length-drop) (omega arith)
-
--- a write to the part from `at` to the end of ys, as the checker has it
-pub written_part : (xs : List ℕ) (at k : ℕ) (ys zs : List ℕ) → zs ≡ ys → k ≡ length ys → put_mid at k xs zs ≡ placed xs at ys
-written_part xs at k ys zs e f =
-    ap (λ t. take at xs ++ (t ++ drop k (drop at xs))) e
-    ∙ ap (λ t. take at xs ++ (ys ++ t)) (drop-drop k at xs ∙ ap (λ j. drop (at + j) xs) f)
 
 pub placed_none : (xs : List ℕ) (at : ℕ) → placed xs at [] ≡ xs
 placed_none xs at = ap (λ k. take at xs ++ drop k xs) (let e : at + 0 ≡ at = omega arith in e) ∙ take-append-drop at xs

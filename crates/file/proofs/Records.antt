@@ -6,19 +6,12 @@ use Rattle.book.specs.declared.kind.Kind.TheVariants.{CasingTop}
 use Rattle.book.specs.declared.place.Entry.{Entry}
 use Rattle.book.specs.Kinds.{number_of}
 use Rattle.book.specs.Model.{Node, no_node}
-use Rattle.book.specs.Totals.{places_in}
-use Rattle.file.specs.Encode.{node_record, node_records, place_record, place_records, entry_records, pick_records}
+use Rattle.file.specs.Encode.{node_record, node_records, place_record, place_records, pick_records}
 
 pub nodes_next : (first k : ℕ) (ns : List Node) (i : ℕ) → i < length ns → k ≡ length (get_or ns i no_node).places → node_records first (drop i ns) ≡ node_record first (get_or ns i no_node) ++ node_records (first + k) (drop (i + 1) ns)
 nodes_next first k ns i within e =
     at_drop_more (node_records first) ns i no_node within
     ∙ ap (λ j. node_record first (get_or ns i no_node) ++ node_records (first + j) (drop (i + 1) ns)) (sym e)
-
-pub places_next : (ns : List Node) (i : ℕ) → i < length ns → places_in (drop i ns) ≡ length (get_or ns i no_node).places + places_in (drop (i + 1) ns)
-places_next ns i within = at_drop_more places_in ns i no_node within
-
-pub entries_next : (ns : List Node) (i : ℕ) → i < length ns → entry_records (drop i ns) ≡ place_records (get_or ns i no_node).places ++ entry_records (drop (i + 1) ns)
-entries_next ns i within = at_drop_more entry_records ns i no_node within
 
 -- the place at i is p
 pub place_next : (ps : List (Option Entry)) (i : ℕ) → i < length ps → (p : Option Entry) → p ≡ get_or ps i None → place_records (drop i ps) ≡ place_record p ++ place_records (drop (i + 1) ps)

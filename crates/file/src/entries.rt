@@ -15,8 +15,8 @@ fn put_entry(entry: Entry, pen: &mut Pen)
     requires { HasRoom pen.old (entry_record entry) }
     ensures { pen.new ≡ wrote pen.old (entry_record entry) }
 {
-    pen.put_point(&entry.bounds.low());
-    pen.put_point(&entry.bounds.high());
+    pen.put_point(entry.bounds.low());
+    pen.put_point(entry.bounds.high());
     pen.put_u16(entry.target);
 }
 

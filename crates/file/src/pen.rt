@@ -57,9 +57,9 @@ impl<'a> Pen<'a> {
     }
 
     /// Puts the three coordinates of a point.
-    pub(crate) fn put_point(&mut self, point: &Point)
-        requires { HasRoom self.old (point_bytes point.now) }
-        ensures { self.new ≡ wrote self.old (point_bytes point.now) }
+    pub(crate) fn put_point(&mut self, point: Point)
+        requires { HasRoom self.old (point_bytes point) }
+        ensures { self.new ≡ wrote self.old (point_bytes point) }
     {
         self.put_i32(point.easting);
         self.put_i32(point.northing);
