@@ -1,10 +1,8 @@
 -- Where a line is cut at its first blank, the two parts are its word and its rest.
-use Rattle.std.proofs.Common.{◌≡◌, ℕ, suc, ◌+◌, ◌<◌, true, false, cond, not, ◌&&◌, ◌||◌, eqb, ltb, List, [], ◌∷◌, ◌++◌, length, get_or, take, drop, sym, refl, ap, ◌∙◌, arith}
-use Prim.Native.Nat.compare
-use lib.Dec.{compare_is_eq}
+use Rattle.std.proofs.Common.{◌≡◌, ℕ, suc, ◌+◌, ◌<◌, false, eqb, List, [], ◌∷◌, ◌++◌, length, get_or, take, drop, sym, refl, ap, ◌∙◌, arith}
 use Rattle.std.proofs.lemmas.List.{take-append-drop, drop_more, get_or-take, length-take}
 use Rattle.std.proofs.lemmas.Bool.Decides.{nat_tests}
-use Rattle.line.specs.Words.{blank, word_of, rest_of, has_blank, is_word}
+use Rattle.line.specs.Words.{blank, word_of, rest_of}
 
 -- none of the first n bytes is a blank
 abbrev pub NoBlank : List ℕ → ℕ → Type 0
@@ -45,16 +43,3 @@ word_cut bs i h e none = (parts (take i bs) (drop (i + 1) bs) (front bs i none))
 
 pub rest_cut : (bs : List ℕ) (i : ℕ) → i < length bs → get_or bs i 0 ≡ blank → NoBlank bs i → drop (i + 1) bs ≡ rest_of bs
 rest_cut bs i h e none = (parts (take i bs) (drop (i + 1) bs) (front bs i none)).1 ∙ ap rest_of (sym (cut bs i h e))
-
--- the first word is all of a text exactly if the text has no blank
-all_word : (bs : List ℕ) → eqb (length (word_of bs)) (length bs) ≡ not (has_blank bs)
-all_word [] = refl
-all_word (b ∷ bs) =
-    let rest = all_word bs in
-    elim (eqb b blank) as (λ v. eqb (length (cond v [] (b ∷ word_of bs))) (suc (length bs)) ≡ not (v || has_blank bs))
-    [ true ↦ ap compare_is_eq (compare.zero-suc (length bs)) | false ↦ ap compare_is_eq (compare.suc-suc (length (word_of bs)) (length bs)) ∙ rest ]
-
-pub one_word : (ws bs : List ℕ) → ws ≡ word_of bs → 0 < length bs → eqb (length ws) (length bs) ≡ is_word bs
-one_word ws bs e h =
-    let some : ltb 0 (length bs) ≡ true = grind (arith, nat_tests) in
-    ap (λ v. eqb (length v) (length bs)) e ∙ all_word bs ∙ sym (ap (λ v. v && not (has_blank bs)) some)

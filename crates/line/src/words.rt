@@ -9,19 +9,15 @@ pub fn first_word(line: &[u8]) -> (&[u8], &[u8])
     ensures word { result.0.now ≡ word_of line.now }
     ensures rest { result.1.now ≡ rest_of line.now }
 {
-    for (i, byte) in line.iter().enumerate() {
-        if *byte == b' ' {
-            return (&line[0..i], &line[i + 1..]);
-        }
+    match line.iter().position(|byte| *byte == b' ') {
+        Some(blank) => (&line[..blank], &line[blank + 1..]),
+        None => (line, &[]),
     }
-    (line, &line[line.len()..])
 }
 
 /// Whether the text is one word: some bytes, and no blank among them.
-#[tactic(auto, using(crate::proofs::Split::one_word))]
 pub fn is_word(text: &[u8]) -> bool
     ensures { result ≡ is_word text.now }
 {
-    let (word, _) = first_word(text);
-    text.len() > 0 && word.len() == text.len()
+    !text.is_empty() && !text.contains(&b' ')
 }
