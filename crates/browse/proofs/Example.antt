@@ -3,7 +3,7 @@ use Rattle.std.proofs.Common.{◌≡◌, ℕ, zero, suc, List, [], ◌∷◌, �
 use Rattle.refusal.specs.Told.{at_node}
 use Rattle.geometry.specs.Bounds.{span_at, bounds_at}
 use Rattle.geometry.specs.Contains.{contains}
-use Rattle.geometry.specs.Distance.{euclidean}
+use Rattle.geometry.specs.Distance.{euclidean, box_distance}
 use Rattle.geometry.specs.declared.bounds.Point.{Point}
 use Rattle.geometry.specs.declared.bounds.Bounds.{Bounds}
 use Rattle.book.specs.declared.kind.Kind.TheVariants.{CasingTop, Perforation, Marker}
@@ -88,20 +88,20 @@ law : BookShape small → Monotone far → FitsWord far → (turns : List Turn) 
 law shape mono fits = browsed small far shape mono fits accepted
 
 ranked : ranking small far ≡ row 0 1225 35 ∷ row 2 251225 35 ∷ row 3 4250000 2000 ∷ row 1 16000000 4000 ∷ []
-unfolding span_at euclidean
+unfolding span_at box_distance
 ranked = refl
 
 distances : node_distances small far ≡ 0 ∷ 1225 ∷ 251225 ∷ []
-unfolding span_at euclidean
+unfolding span_at box_distance
 distances = refl
 
 -- the limit just below the nearest pick, and at it
 short : replies small (day 1224 ∷ []) ≡ Ok (none 1) ∷ []
-unfolding span_at euclidean can_open next_of
+unfolding span_at box_distance can_open next_of
 short = refl
 
 reaching : replies small (day 1225 ∷ []) ≡ Ok (told (row 0 1225 35) 2) ∷ []
-unfolding span_at euclidean can_open next_of
+unfolding span_at box_distance can_open next_of
 reaching = refl
 
 -- two hands, limits that rise and fall
@@ -117,7 +117,7 @@ shared : replies small (report ∷ day 1224 ∷ evening 2000 ∷ day 251224 ∷ 
     ∷ Ok (told (row 1 16000000 4000) 3)
     ∷ Ok (none 3)
     ∷ []
-unfolding span_at euclidean can_open next_of
+unfolding span_at box_distance can_open next_of
 shared = refl
 
 -- pick 0 lies outside the box of its node, and nearer: the node cannot be opened, however often it is asked
@@ -133,5 +133,5 @@ broken =
 
 refused : replies broken (day 1599 ∷ day 1600 ∷ evening unlimited ∷ report ∷ [])
     ≡ Ok (none 1) ∷ Err (at_node 20 0) ∷ Err (at_node 20 0) ∷ Ok (counts 0 1) ∷ []
-unfolding span_at euclidean can_open next_of
+unfolding span_at box_distance can_open next_of
 refused = refl

@@ -17,14 +17,14 @@ sum_of a b c = a + b + c
 abbrev pub greatest_of : Combine
 greatest_of a b c = max (max a b) c
 
-abbrev pub box_distance : Combine → Bounds → Bounds → ℕ
+unfoldable pub box_distance : Combine → Bounds → Bounds → ℕ
 box_distance f q b = f (gap q.easting b.easting) (gap q.northing b.northing) (gap q.level b.level)
 
-unfoldable pub euclidean : Bounds → Bounds → ℕ
+abbrev pub euclidean : Bounds → Bounds → ℕ
 euclidean = box_distance sum_of_squares
 
-unfoldable pub manhattan : Bounds → Bounds → ℕ
+abbrev pub manhattan : Bounds → Bounds → ℕ
 manhattan = box_distance sum_of
 
-unfoldable pub chessboard : Bounds → Bounds → ℕ
+abbrev pub chessboard : Bounds → Bounds → ℕ
 chessboard = box_distance greatest_of

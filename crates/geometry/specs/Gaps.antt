@@ -1,9 +1,10 @@
 -- Gaps by axis, and then any way of putting three of them together that grows with each.
-use Rattle.std.specs.Prelude.{◌≡◌, ℕ, ◌≤◌, ℤ}
+use Rattle.std.specs.Prelude.{◌≡◌, ℕ, ◌^◌, ◌<◌, ◌≤◌, ℤ}
 use Rattle.std.proofs.Common.{sym, subst, arith}
 use Rattle.std.proofs.lemmas.Int.{ints, by_lt_z}
 use Rattle.std.proofs.lemmas.Nat.{mul-le}
 use Rattle.geometry.specs.Gap.{gap}
+use Rattle.geometry.specs.Range.{widest}
 use Rattle.geometry.specs.Within.{Inside, Within, On}
 use Rattle.geometry.specs.Distance.{Combine, sum_of_squares, sum_of, greatest_of, box_distance}
 use Rattle.geometry.specs.Nearest.{apart, Least}
@@ -13,7 +14,7 @@ use Rattle.geometry.specs.declared.bounds.Bounds.{Bounds}
 gap_mono : (q o i : Span) → Inside i o → gap q o ≤ gap q i
 gap_mono q o i h = omega (arith, ints)
 
-pub gap_most : (q b : Span) → gap q b ≤ 20000000
+pub gap_most : (q b : Span) → gap q b ≤ widest
 gap_most q b = omega (arith, ints)
 
 gap_under : (q b : Span) (x y : ℤ) → On x q → On y b → gap q b ≤ apart x y
@@ -40,7 +41,7 @@ met q b =
     (λ l. record { here = q.low; there = q.low; here_on = (omega (arith, ints), omega (arith, ints)); there_on = (omega (arith, ints), omega (arith, ints)); is_gap = omega (arith, ints) })))
 
 -- a way of putting three numbers together that grows with each
-abbrev Grows : Combine → Type 0
+abbrev pub Grows : Combine → Type 0
 Grows f = (a b c d e g : ℕ) → a ≤ d → b ≤ e → c ≤ g → f a b c ≤ f d e g
 
 pub squares_grow : Grows sum_of_squares
@@ -53,19 +54,34 @@ pub greatest_grows : Grows greatest_of
 greatest_grows a b c d e g p q r = omega arith
 
 pub monotone : (f : Combine) → Grows f → (q o i : Bounds) → Within i o → box_distance f q o ≤ box_distance f q i
+unfolding box_distance
 monotone f grow q o i w =
     grow _ _ _ _ _ _ (gap_mono q.easting o.easting i.easting w.0)
     (gap_mono q.northing o.northing i.northing w.1) (gap_mono q.level o.level i.level w.2)
 
 -- no measure that grows gives more than it does at the widest gaps
-pub most : (f : Combine) → Grows f → (q b : Bounds) → box_distance f q b ≤ f 20000000 20000000 20000000
+most : (f : Combine) → Grows f → (q b : Bounds) → box_distance f q b ≤ f widest widest widest
+unfolding box_distance
 most f grow q b =
     grow _ _ _ _ _ _ (gap_most q.easting b.easting) (gap_most q.northing b.northing) (gap_most q.level b.level)
+
+pub fits : (f : Combine) → Grows f → f widest widest widest < 2 ^ 64 → (q b : Bounds) → box_distance f q b < 2 ^ 64
+fits f grow small q b = omega (arith, most f grow q b)
+
+pub squares_small : sum_of_squares widest widest widest < 2 ^ 64
+squares_small = omega arith
+
+pub sum_small : sum_of widest widest widest < 2 ^ 64
+sum_small = omega arith
+
+pub greatest_small : greatest_of widest widest widest < 2 ^ 64
+greatest_small = omega arith
 
 same_by : (f : Combine) {a b c d e g : ℕ} → a ≡ d → b ≡ e → c ≡ g → f a b c ≡ f d e g
 same_by f p q r = cc
 
 least : (f : Combine) → Grows f → (q b : Bounds) → Least f q b (box_distance f q b)
+unfolding box_distance
 least f grow q b =
     let e = met q.easting b.easting in
     let n = met q.northing b.northing in

@@ -1,34 +1,23 @@
 //! The Chessboard measure.
 
-ghost use Rattle.std.specs.Prelude.{◌≡◌};
-ghost use Rattle.geometry.specs.Distance.{chessboard, greatest_of};
-ghost use Rattle.geometry.specs.Nearest.{Least};
-ghost use Rattle.geometry.specs.Gaps;
-ghost use Rattle.geometry.specs.Gaps.{greatest_grows, most};
-ghost use Rattle.std.proofs.Common.{arith};
+ghost use Rattle.geometry.specs.Distance.{greatest_of};
+ghost use Rattle.geometry.specs.Gaps.{greatest_grows, greatest_small};
 
-use crate::bounds::Bounds;
-use crate::measure::Measure;
+use crate::combine::Combine;
+use crate::gap::Gaps;
 
 /// The greatest of the three gaps.
 #[derive(Clone, Copy)]
 pub struct Chessboard;
 
-impl Measure for Chessboard {
-    ghost distance = { λ _ q b. chessboard q b };
+impl Combine for Chessboard {
+    ghost way = { λ _. greatest_of };
 
-    ghost monotone = { unfold chessboard in λ m q outer inner w. Gaps.monotone greatest_of greatest_grows q outer inner w };
+    ghost grows = { λ _. greatest_grows };
 
-    ghost fits = { unfold chessboard in λ m q b. omega (arith, most greatest_of greatest_grows q b) };
+    ghost small = { λ _. greatest_small };
 
-    fn distance(&self, query: &Bounds, bounds: &Bounds) -> u64
-        ensures value { result ≡ chessboard query.now bounds.now }
-        ensures least { Least greatest_of query.now bounds.now result }
-    {
-        let sideways = query
-            .easting
-            .gap(&bounds.easting)
-            .max(query.northing.gap(&bounds.northing));
-        sideways.max(query.level.gap(&bounds.level))
+    fn combine(&self, gaps: &Gaps) -> u64 {
+        gaps.easting.max(gaps.northing).max(gaps.level)
     }
 }

@@ -1,18 +1,14 @@
 //! One of the three measures, chosen while the program runs.
 
-ghost use Rattle.geometry.specs.Choice.{chosen};
-ghost use Rattle.geometry.specs.Distance;
-ghost use Rattle.geometry.specs.Distance.{sum_of_squares, sum_of, greatest_of};
+ghost use Rattle.geometry.specs.Choice.{way_of};
 ghost use Rattle.geometry.specs.declared.choice.Choice.TheVariants.{Euclidean, Manhattan, Chessboard};
-ghost use Rattle.geometry.specs.Gaps;
-ghost use Rattle.geometry.specs.Gaps.{squares_grow, sum_grows, greatest_grows, most};
-ghost use Rattle.std.proofs.Common.{arith};
+ghost use Rattle.geometry.specs.Gaps.{squares_grow, squares_small, sum_grows, sum_small, greatest_grows, greatest_small};
 
-use crate::bounds::Bounds;
 use crate::chessboard::Chessboard;
+use crate::combine::Combine;
 use crate::euclidean::Euclidean;
+use crate::gap::Gaps;
 use crate::manhattan::Manhattan;
-use crate::measure::Measure;
 
 #[derive(Clone, Copy, PartialEq, Eq, Debug)]
 pub enum Choice {
@@ -21,28 +17,18 @@ pub enum Choice {
     Chessboard,
 }
 
-impl Measure for Choice {
-    ghost distance = { chosen };
+impl Combine for Choice {
+    ghost way = { way_of };
 
-    ghost monotone = { unfold Distance.euclidean Distance.manhattan Distance.chessboard in
-        elim [
-          | Euclidean ↦ λ q outer inner w. Gaps.monotone sum_of_squares squares_grow q outer inner w
-          | Manhattan ↦ λ q outer inner w. Gaps.monotone sum_of sum_grows q outer inner w
-          | Chessboard ↦ λ q outer inner w. Gaps.monotone greatest_of greatest_grows q outer inner w
-        ] };
+    ghost grows = { elim [ Euclidean ↦ squares_grow | Manhattan ↦ sum_grows | Chessboard ↦ greatest_grows ] };
 
-    ghost fits = { unfold Distance.euclidean Distance.manhattan Distance.chessboard in
-        elim [
-          | Euclidean ↦ λ q b. omega (arith, most sum_of_squares squares_grow q b)
-          | Manhattan ↦ λ q b. omega (arith, most sum_of sum_grows q b)
-          | Chessboard ↦ λ q b. omega (arith, most greatest_of greatest_grows q b)
-        ] };
+    ghost small = { elim [ Euclidean ↦ squares_small | Manhattan ↦ sum_small | Chessboard ↦ greatest_small ] };
 
-    fn distance(&self, query: &Bounds, bounds: &Bounds) -> u64 {
+    fn combine(&self, gaps: &Gaps) -> u64 {
         match self {
-            Choice::Euclidean => Euclidean.distance(query, bounds),
-            Choice::Manhattan => Manhattan.distance(query, bounds),
-            Choice::Chessboard => Chessboard.distance(query, bounds),
+            Choice::Euclidean => Euclidean.combine(gaps),
+            Choice::Manhattan => Manhattan.combine(gaps),
+            Choice::Chessboard => Chessboard.combine(gaps),
         }
     }
 }

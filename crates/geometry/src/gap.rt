@@ -1,18 +1,20 @@
-//! The gap of two boxes on one axis.
+//! How far apart two boxes are on each axis.
 
 ghost use Rattle.std.specs.Prelude.{◌≡◌, ◌≤◌};
-ghost use Rattle.geometry.specs.Gap.{above, gap as gap_of};
+ghost use Rattle.geometry.specs.Range.{widest};
+ghost use Rattle.geometry.specs.Gap.{gap as gap_of};
 
-use crate::bounds::Span;
+use crate::bounds::{Bounds, Span};
 
-fn excess(a: i32, b: i32) -> u64
-    ensures { result ≡ above a b }
-{
-    if a > b {
-        (a as i64 - b as i64) as u64
-    } else {
-        0
-    }
+/// The gaps of two boxes, one an axis. None is wider than the range of coordinates.
+#[derive(Clone, Copy, PartialEq, Eq, Debug)]
+pub struct Gaps {
+    pub easting: u64,
+    pub northing: u64,
+    pub level: u64,
+    ghost easting_within: { easting ≤ widest },
+    ghost northing_within: { northing ≤ widest },
+    ghost level_within: { level ≤ widest },
 }
 
 impl Span {
@@ -21,6 +23,23 @@ impl Span {
         ensures value { result ≡ gap_of self.now other.now }
         ensures bound { result ≤ 20000000 }
     {
-        excess(other.low, self.high).max(excess(self.low, other.high))
+        let above = other.low - self.high;
+        let below = self.low - other.high;
+        above.max(below).max(0) as u64
+    }
+}
+
+impl Bounds {
+    /// The gaps of this box and another.
+    pub fn gaps(&self, other: &Bounds) -> Gaps
+        ensures easting { result.easting ≡ gap_of self.now.easting other.now.easting }
+        ensures northing { result.northing ≡ gap_of self.now.northing other.now.northing }
+        ensures level { result.level ≡ gap_of self.now.level other.now.level }
+    {
+        Gaps {
+            easting: self.easting.gap(&other.easting),
+            northing: self.northing.gap(&other.northing),
+            level: self.level.gap(&other.level),
+        }
     }
 }

@@ -6,6 +6,7 @@ pub mod around;
 pub mod bounds;
 pub mod chessboard;
 pub mod choice;
+pub mod combine;
 pub mod contains;
 pub mod corners;
 pub mod euclidean;
