@@ -1,5 +1,5 @@
 -- A box is its two corners.
-use Rattle.std.proofs.Common.{◌≡◌, ℕ, Bool, true, false, T, ℤ, Some, None, Option, sym, refl, ap, ◌∙◌, arith}
+use Rattle.std.proofs.Common.{◌≡◌, Bool, true, false, T, ℤ, Some, None, Option, sym, refl, ap, ◌∙◌}
 use lib.Signed.{le_z}
 use Rattle.geometry.specs.Bounds.{given, span_at, bounds_at}
 use Rattle.geometry.specs.Range.{least_coordinate, most_coordinate}
@@ -8,12 +8,6 @@ use Rattle.geometry.specs.declared.bounds.Point.{Point}
 use Rattle.geometry.specs.declared.bounds.Span.{Span}
 use Rattle.geometry.specs.declared.bounds.Bounds.{Bounds}
 use Rattle.geometry.proofs.Spans.{span_at_lem}
-
-pub some_inj : {A : Type 0} {x y : A} → Some x ≡ Some y → x ≡ y
-some_inj e = cc
-
-pub none_some : {A P : Type 0} {x : A} → None ≡ Some x → P
-none_some e = let z : ◌≡◌ {A = ℕ} 0 1 = cc in absurd (omega arith)
 
 -- an option is nothing or something
 pub by_option : {A P : Type 0} (o : Option A) → (o ≡ None → P) → ((x : A) → o ≡ Some x → P) → P
@@ -25,11 +19,11 @@ Ends s l h = (s.low ≡ l) × (s.high ≡ h)
 
 ends_by : (a b c : Bool) (make : T a → T b → T c → Span) (l h : ℤ) → ((p : T a) (q : T b) (r : T c) → Ends (make p q r) l h) → (s : Span) → given a (λ p. given b (λ q. given c (λ r. Some (make p q r)))) ≡ Some s → Ends s l h
 ends_by true true true make l h ends s e =
-    let same = some_inj e in
+    let same : make tt tt tt ≡ s = cc in
     (sym (ap (λ (t : Span). t.low) same) ∙ (ends tt tt tt).0, sym (ap (λ (t : Span). t.high) same) ∙ (ends tt tt tt).1)
-ends_by true true false make l h ends s e = none_some e
-ends_by true false c make l h ends s e = none_some e
-ends_by false b c make l h ends s e = none_some e
+ends_by true true false make l h ends s e = cc
+ends_by true false c make l h ends s e = cc
+ends_by false b c make l h ends s e = cc
 
 pub span_ends : (l h : ℤ) (s : Span) → span_at l h ≡ Some s → (s.low ≡ l) × (s.high ≡ h)
 unfolding span_at
@@ -48,15 +42,15 @@ pub box_made : (b : Bounds) (lo hi : Point) → low_ends b ≡ lo → high_ends 
 box_made b lo hi p q = sym (bounds_at_lem b) ∙ ap (λ x. bounds_at x (high_ends b)) p ∙ ap (bounds_at lo) q
 
 pub same_box : (a b : Bounds) → low_ends a ≡ low_ends b → high_ends a ≡ high_ends b → a ≡ b
-same_box a b p q = some_inj (box_made a (low_ends b) (high_ends b) p q ∙ bounds_at_lem b)
+same_box a b p q = cc (box_made a (low_ends b) (high_ends b) p q, bounds_at_lem b)
 
 pub box_ends : (lo hi : Point) (b : Bounds) → bounds_at lo hi ≡ Some b → (low_ends b ≡ lo) × (high_ends b ≡ hi)
 box_ends lo hi b e =
-    by_option (span_at lo.easting hi.easting) (λ p. none_some (rw p at e))
-    (λ x p. by_option (span_at lo.northing hi.northing) (λ q. none_some (rw (p, q) at e))
-    (λ y q. by_option (span_at lo.level hi.level) (λ r. none_some (rw (p, q, r) at e))
+    by_option (span_at lo.easting hi.easting) (λ p. cc (rw p at e))
+    (λ x p. by_option (span_at lo.northing hi.northing) (λ q. cc (rw (p, q) at e))
+    (λ y q. by_option (span_at lo.level hi.level) (λ r. cc (rw (p, q, r) at e))
     (λ z r.
-    let same : record { easting = x; northing = y; level = z } ≡ b = some_inj (rw (p, q, r) at e) in
+    let same : record { easting = x; northing = y; level = z } ≡ b = cc (rw (p, q, r) at e) in
     let i = span_ends _ _ x p in
     let j = span_ends _ _ y q in
     let k = span_ends _ _ z r in

@@ -16,6 +16,7 @@ impl Span {
 
 impl Bounds {
     /// Whether the other box lies within this one. Ends are included.
+    #[tactic(auto, unfolding(crate::specs::Contains::contains))]
     pub fn contains(&self, inner: &Bounds) -> bool
         ensures value { result ≡ containsBox self.now inner.now }
         ensures within { Decides result (Within inner.now self.now) }

@@ -21,13 +21,10 @@ impl Bounds {
     pub fn moved(&self, by: Point) -> Option<Bounds>
         ensures { result ≡ moved_bounds self.now by }
     {
-        let easting = self.easting.moved(by.easting)?;
-        let northing = self.northing.moved(by.northing)?;
-        let level = self.level.moved(by.level)?;
         Some(Bounds {
-            easting,
-            northing,
-            level,
+            easting: self.easting.moved(by.easting)?,
+            northing: self.northing.moved(by.northing)?,
+            level: self.level.moved(by.level)?,
         })
     }
 }

@@ -20,7 +20,7 @@ impl Point {
 fn coordinate(x: i32) -> bool
     ensures { result ≡ in_range x }
 {
-    LEAST <= x && x <= MOST
+    (LEAST..=MOST).contains(&x)
 }
 
 impl Span {
@@ -28,6 +28,7 @@ impl Span {
     pub fn new(low: i32, high: i32) -> Option<Span>
         ensures { result ≡ span_at low high }
     {
+        // no `then`: its closure would have to require the three tests again
         if LEAST <= low && low <= high && high <= MOST {
             Some(Span { low, high })
         } else {
@@ -41,17 +42,15 @@ impl Bounds {
     pub fn between(low: Point, high: Point) -> Option<Bounds>
         ensures { result ≡ bounds_at low high }
     {
-        let easting = Span::new(low.easting, high.easting)?;
-        let northing = Span::new(low.northing, high.northing)?;
-        let level = Span::new(low.level, high.level)?;
         Some(Bounds {
-            easting,
-            northing,
-            level,
+            easting: Span::new(low.easting, high.easting)?,
+            northing: Span::new(low.northing, high.northing)?,
+            level: Span::new(low.level, high.level)?,
         })
     }
 
     /// The box with these corners. All six ends are tested for their range before any two are compared.
+    #[tactic(auto, unfolding(crate::specs::Bounds::bounds_of))]
     pub fn new(low: Point, high: Point) -> Result<Bounds, TypingFault>
         ensures { answered typing_told result ≡ bounds_of low high }
     {

@@ -4,12 +4,6 @@ use Rattle.geometry.specs.Contains.{contains}
 use Rattle.geometry.proofs.Containing.{contains_within}
 use Rattle.geometry.proofs.bounds.Bounds.contains.Goals as goal
 
-pub returns-then-covers-2 : goal.returns-then-covers-2
+pub returns-then-covers-2-clause-within : goal.returns-then-covers-2-clause-within
 unfolding contains
-returns-then-covers-2 c =
-    record { value = search rules; within = Decides-at _ _ (search rules) (contains_within c.args.self.now c.args.inner.now) }
-
-pub returns-else-covers-2 : goal.returns-else-covers-2
-unfolding contains
-returns-else-covers-2 c =
-    record { value = search rules; within = Decides-at _ _ (search rules) (contains_within c.args.self.now c.args.inner.now) }
+returns-then-covers-2-clause-within c = Decides-at _ _ (search rules) (contains_within c.args.self.now c.args.inner.now)
