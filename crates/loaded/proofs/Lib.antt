@@ -1,6 +1,8 @@
 pub mod BookW
 pub mod Reading
-pub mod Rows
+pub mod Cut
+pub mod PlaceCut
+pub mod NodeRecords
 pub mod PickKinds
 pub mod Filling
 pub mod Laid

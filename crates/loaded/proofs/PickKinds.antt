@@ -1,9 +1,10 @@
 -- The kinds of pick records, one after another.
-use Rattle.std.proofs.Common.{◌≡◌, ℕ, ◌+◌, ◌<◌, ◌≤◌, Bool, true, false, ◌&&◌, List, [], ◌∷◌, ◌++◌, length, get_or, drop, is_some, is_ok, Some, None, Option, Ok, Err, sym, refl, ap, ◌∙◌, arith}
+use Rattle.std.proofs.Common.{◌≡◌, ℕ, ◌+◌, ◌<◌, ◌≤◌, Bool, ◌&&◌, List, [], ◌∷◌, ◌++◌, length, get_or, drop, is_some, is_ok, Some, None, Option, Ok, Err, sym, refl, ap, ◌∙◌, arith}
 use Rattle.std.proofs.lemmas.List.{at_drop_more, at_drop_all, append_assoc, append-nil}
 use Rattle.book.specs.Kinds.{kind_with}
 use Rattle.book.specs.declared.kind.Kind.{Kind}
 use Rattle.std.specs.Option.{ok_or}
+use Rattle.std.specs.List.{list_all}
 use Rattle.book.specs.declared.kind.UnknownKind.{UnknownKind}
 use Rattle.loaded.specs.Decode.{all_kinds, with_kind, kinds_from}
 
@@ -18,26 +19,14 @@ module _ (o : Option Kind) (e : UnknownKind) where
   pub numbered_none : (f : UnknownKind) → Err f ≡ ok_or o e → None ≡ o
   numbered_none f = elim o as (λ o. Err f ≡ ok_or o e → None ≡ o) [ Some x ↦ λ h. absurd cc | None ↦ λ h. refl ]
 
-regroup : (a b c : Bool) → (a && b) && c ≡ a && (b && c)
-regroup true b c = refl
-regroup false b c = refl
+abbrev pub is_kind : ℕ → Bool
+is_kind b = is_some (kind_with b)
 
-and_true : (a : Bool) → a && true ≡ a
-and_true true = refl
-and_true false = refl
+pub all_are_kinds : (bs : List ℕ) → list_all is_kind bs ≡ all_kinds bs
+all_are_kinds [] = refl
+all_are_kinds (b ∷ bs) = ap (λ (rest : Bool). is_kind b && rest) (all_are_kinds bs)
 
 module _ (bs : List ℕ) (i : ℕ) where
-  -- one more tested
-  pub kinds_tested : (all some : Bool) → i < length bs → some ≡ is_some (kind_with (get_or bs i 0)) → all && all_kinds (drop i bs) ≡ all_kinds bs → (all && some) && all_kinds (drop (i + 1) bs) ≡ all_kinds bs
-  kinds_tested all some h e inv =
-      regroup all some (all_kinds (drop (i + 1) bs))
-      ∙ ap (λ (t : Bool). all && (t && all_kinds (drop (i + 1) bs))) e
-      ∙ ap (λ (t : Bool). all && t) (sym (at_drop_more all_kinds bs i 0 h))
-      ∙ inv
-
-  pub all_tested : (all : Bool) → length bs ≤ i → all && all_kinds (drop i bs) ≡ all_kinds bs → all ≡ all_kinds bs
-  all_tested all h inv = sym (and_true all) ∙ ap (λ (t : Bool). all && t) (sym (at_drop_all all_kinds bs i h)) ∙ inv
-
   -- one more kind, or none
   pub kinds_next : (o : Option Kind) → i < length bs → o ≡ kind_with (get_or bs i 0) → kinds_from (drop i bs) ≡ with_kind o (kinds_from (drop (i + 1) bs))
   kinds_next o h e =

@@ -9,7 +9,7 @@ use Rattle.book.specs.Model as model
 use Rattle.book.specs.declared.kind.Kind.{Kind}
 use Rattle.book.specs.declared.place.Entry.{Entry}
 use Rattle.loaded.specs.declared.record.NodeRecord.{NodeRecord}
-use Rattle.std.specs.Option.{option_map}
+use Rattle.std.specs.Option.{option_map, MatchOption}
 use Rattle.std.specs.Slice.{IsGetResult}
 use Rattle.std.specs.Borrow.{Bor}
 use Rattle.loaded.specs.Tables.{target_fits, node_of, book_of, places_of_all, firsts_add_up, within_limits, lawful_nodes, all_targets_fit}
@@ -57,6 +57,14 @@ past_place ps r i h = get_or_past (node_of ps r).places i None (simp (length-tak
 pub kind_found : (ks : List Kind) (p : ℕ) (r : Option (Bor Kind)) → IsGetResult ks p p r → option_map (λ (x : Bor Kind). x.now) r ≡ slice_index_or (map Some ks) p None
 kind_found ks p None h = sym (get_or_past (map Some ks) p None (omega (arith, length-map ks Some, h.3)))
 kind_found ks p (Some k) h = sym (get_or-map Some ks p k.now None h.3.0 ∙ ap Some (sym h.1))
+
+-- how many places the node has that a look into the table finds
+pub places_counted : (rs : List NodeRecord) (ps : List (Option Entry)) (ks : List Kind) (n count : ℕ) (P : Bor NodeRecord → Type 0) → ((x : Bor NodeRecord) → P x → count ≡ x.now.places) → (found : Option (Bor NodeRecord)) → IsGetResult rs n n found → MatchOption found (count ≡ 0) P → lawful_nodes rs ≡ true → places_of_all rs ≡ length ps → count ≡ model.place_count (book_of rs ps ks) n
+places_counted rs ps ks n count P h None g e l t = e ∙ sym (ap (λ (m : Node). length m.places) (past_node rs ps ks n g.3))
+places_counted rs ps ks n count P h (Some x) g e l t =
+    let node = at_node_lem rs ps ks n x.now g.3.0 g.1 in
+    let ends = within_at rs n x.now g.3.0 g.1 l in
+    h x e ∙ sym (ap (λ (m : Node). length m.places) node ∙ places_are ps x.now (omega arith))
 
 low : (ps : List (Option Entry)) (rs : List NodeRecord) → within_limits rs ≡ true → (n : ℕ) → (get_or (map (node_of ps) rs) n no_node).level ≤ 7
 low ps [] w n = omega arith

@@ -1,56 +1,37 @@
-//! The entry records of a file, of 26 bytes each.
+//! The entry records of a file.
 
-ghost use Rattle.std.specs.Prelude.{◌≡◌, ◌+◌, ◌*◌, ◌≤◌, true, length, vec_capacity};
+ghost use Rattle.std.specs.Prelude.{◌≡◌, [], true, slice_index_or};
 ghost use Rattle.loaded.specs.Reading.{long_at};
-ghost use Rattle.loaded.specs.Decode.{point_from, place_from, places_from};
-ghost use Rattle.loaded.specs.Tables.{target_fits, all_targets_fit};
+ghost use Rattle.loaded.specs.Decode.{place_from};
+ghost use Rattle.loaded.specs.Tables.{target_fits};
 
 use crate::limits::ENTRY;
 use book::place::Entry;
 use geometry::bounds::{Bounds, Point};
 
-fn read_coordinate(bytes: &[u8], at: usize) -> i32
-    requires { at + 4 ≤ length bytes.now }
-    ensures { result ≡ long_at bytes.now at }
+fn read_point(coordinates: [[u8; 4]; 3]) -> Point
+    ensures easting { result.easting ≡ long_at (slice_index_or coordinates 0 []) 0 }
+    ensures northing { result.northing ≡ long_at (slice_index_or coordinates 1 []) 0 }
+    ensures level { result.level ≡ long_at (slice_index_or coordinates 2 []) 0 }
 {
-    i32::from_le_bytes([bytes[at], bytes[at + 1], bytes[at + 2], bytes[at + 3]])
-}
-
-fn read_point(bytes: &[u8], at: usize) -> Point
-    requires { at + 12 ≤ length bytes.now }
-    ensures { result ≡ point_from bytes.now at }
-{
+    let [easting, northing, level] = coordinates;
     Point {
-        easting: read_coordinate(bytes, at),
-        northing: read_coordinate(bytes, at + 4),
-        level: read_coordinate(bytes, at + 8),
+        easting: i32::from_le_bytes(easting),
+        northing: i32::from_le_bytes(northing),
+        level: i32::from_le_bytes(level),
     }
 }
 
 /// The entry of this record, or a spoilt place where its ends make no box.
-fn read_place(bytes: &[u8]) -> Option<Entry>
-    requires { 26 ≤ length bytes.now }
+pub(crate) fn read_place(bytes: &[u8; ENTRY]) -> Option<Entry>
     ensures place { result ≡ place_from bytes.now }
     ensures fits { target_fits result ≡ true }
 {
-    let low = read_point(bytes, 0);
-    let high = read_point(bytes, 12);
-    let target = u16::from_le_bytes([bytes[24], bytes[25]]);
-    match Bounds::between(low, high) {
-        Some(bounds) => Some(Entry { bounds, target }),
-        None => None,
-    }
-}
-
-/// Fills the table with the places of these records alone.
-pub(crate) fn fill_places(table: &mut Vec<Option<Entry>>, records: &[u8], count: usize)
-    requires { (count * 26 ≤ length records.now) × (count ≤ vec_capacity table.old) }
-    ensures items { table.new.items ≡ places_from count records.now }
-    ensures fits { all_targets_fit table.new.items ≡ true }
-    ensures room { vec_capacity table.new ≡ vec_capacity table.old }
-{
-    table.clear();
-    for i in 0..count {
-        table.push_reserved(read_place(&records[i * ENTRY..i * ENTRY + ENTRY]));
-    }
+    let (coordinates, target) = bytes.as_chunks();
+    let (points, _) = coordinates.as_chunks();
+    let bounds = Bounds::between(read_point(points[0]), read_point(points[1]))?;
+    Some(Entry {
+        bounds,
+        target: u16::from_le_bytes([target[0], target[1]]),
+    })
 }

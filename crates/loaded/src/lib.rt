@@ -9,3 +9,4 @@ mod nodes;
 mod picks;
 pub mod record;
 mod sections;
+mod tables;

@@ -8,12 +8,7 @@ use book::kind::Kind;
 pub(crate) fn all_kinds(numbers: &[u8]) -> bool
     ensures { result ≡ all_kinds numbers.now }
 {
-    // With no way out of the loop several numbers are tested at a time.
-    let mut all = true;
-    for number in numbers {
-        all &= Kind::try_from(*number).is_ok();
-    }
-    all
+    numbers.iter().all(|number| Kind::try_from(*number).is_ok())
 }
 
 /// Fills the table with the kinds of these numbers alone.

@@ -6,13 +6,14 @@ ghost use Rattle.loaded.specs.Decode.{decode};
 ghost use Rattle.loaded.specs.Lawful.{TakesLawful};
 ghost use Rattle.loaded.specs.Load.{load_answer, held_after};
 ghost use Rattle.loaded.specs.Loaded.{loaded_model};
-ghost use Rattle.loaded.specs.Seen.{book_in, Lawful};
+ghost use Rattle.loaded.specs.Seen.{book_in, LawfulSections};
 
-use crate::entries::fill_places;
+use crate::entries::read_place;
 use crate::loaded::Loaded;
-use crate::nodes::fill_nodes;
 use crate::picks::fill_kinds;
-use crate::sections::{Section, Sections, read_sections};
+use crate::record::NodeRecord;
+use crate::sections::{Sections, read_sections};
+use crate::tables::fill;
 use refusal::hands::FileFault;
 
 impl Loaded {
@@ -23,25 +24,25 @@ impl Loaded {
         ensures book { loaded_model self.new ≡ held_after (decode bytes.now) (loaded_model self.old) }
         ensures lawful { TakesLawful result bytes.now (loaded_model self.new) }
     {
-        let Sections {
-            nodes,
-            entries,
-            picks,
-        } = read_sections(bytes)?;
-        if !picks.rest.is_empty() {
+        let sections = read_sections(bytes)?;
+        if !sections.picks.rest.is_empty() {
             return Err(FileFault::Length);
         }
-        self.fill(nodes, entries, picks);
+        self.fill(sections);
         Ok(())
     }
 
     /// Takes the book of these sections.
-    fn fill(&mut self, nodes: Section<'_>, entries: Section<'_>, picks: Section<'_>)
-        requires { Lawful nodes entries picks }
-        ensures { loaded_model self.new ≡ book_in nodes.entry entries.entry picks.entry }
+    fn fill(&mut self, sections: Sections<'_>)
+        requires { LawfulSections sections }
+        ensures { loaded_model self.new ≡ book_in sections.entry }
     {
-        fill_nodes(&mut self.nodes, nodes.records, nodes.count);
-        fill_places(&mut self.places, entries.records, entries.count);
-        fill_kinds(&mut self.kinds, picks.records);
+        fill(
+            &mut self.nodes,
+            sections.nodes.records,
+            |record| NodeRecord::from(*record),
+        );
+        fill(&mut self.places, sections.entries.records, read_place);
+        fill_kinds(&mut self.kinds, sections.picks.records.as_flattened());
     }
 }

@@ -22,29 +22,19 @@ impl Book for Loaded {
     }
 
     fn level(&self, node: u16) -> u8 {
-        let at = node as usize;
-        if at < self.nodes.len() {
-            self.nodes[at].level
-        } else {
-            0
-        }
+        self.nodes
+            .get(node as usize)
+            .map_or(0, |record| record.level)
     }
 
     fn place_count(&self, node: u16) -> u8 {
-        let at = node as usize;
-        if at < self.nodes.len() {
-            self.nodes[at].places
-        } else {
-            0
-        }
+        self.nodes
+            .get(node as usize)
+            .map_or(0, |record| record.places)
     }
 
     fn place(&self, node: u16, index: u8) -> Option<Entry> {
-        let at = node as usize;
-        if at >= self.nodes.len() {
-            return None;
-        }
-        let record = self.nodes[at];
+        let record = self.nodes.get(node as usize)?;
         if index >= record.places {
             return None;
         }

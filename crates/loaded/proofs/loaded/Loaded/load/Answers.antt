@@ -6,9 +6,9 @@ use Rattle.loaded.specs.Loaded.{loaded_model}
 use Rattle.loaded.proofs.Taken.{takes}
 use Rattle.loaded.proofs.loaded.Loaded.load.Goals as goal
 
-pub returns-in_err-nodes-clause-lawful : goal.returns-in_err-nodes-clause-lawful
+pub returns-in_err-sections-clause-lawful : goal.returns-in_err-sections-clause-lawful
 unfolding decode
-returns-in_err-nodes-clause-lawful c =
+returns-in_err-sections-clause-lawful c =
     let held = loaded_model c.args.self.now in
     takes c.args.bytes.now held held c.from_residual.result c.type_inv.bytes (grind (arith, common_steps)) (grind (arith, common_steps))
 
