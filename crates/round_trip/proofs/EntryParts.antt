@@ -1,44 +1,46 @@
 -- Entry records.
-use Rattle.std.proofs.Common.{◌≡◌, ℕ, zero, suc, ◌+◌, ◌*◌, ◌/◌, ◌%◌, ◌<◌, ◌≤◌, List, [], ◌∷◌, ◌++◌, length, get_or, take, drop, sym, refl, ap, ◌∙◌, arith, length-drop, length-take, w32, to_z, Some, None, Option}
-use Rattle.std.proofs.ByRecursion.{All-take, All-drop}
-use Rattle.std.proofs.lemmas.List.{get_or-drop, drop-drop, drop_at, take_all, take-append-drop, nil_from_length}
+use Rattle.std.proofs.Common.{◌≡◌, ℕ, ◌+◌, ◌*◌, ◌/◌, ◌%◌, ◌<◌, ◌≤◌, List, [], ◌∷◌, ◌++◌, map, length, get_or, take, drop, sym, refl, ap, ◌∙◌, arith, length-drop, w32, to_z, Some, None, Option}
+use Rattle.std.proofs.ByRecursion.{All-drop}
+use Rattle.std.proofs.lemmas.List.{get_or-drop, drop-drop, take_all}
 use Rattle.std.proofs.lemmas.Int.{of_z-to_z}
-use Rattle.std.specs.List.{AllByRecursion}
+use Rattle.std.specs.List.{flat_map, AllByRecursion}
 use Rattle.geometry.proofs.Boxes.{by_option, bounds_at_lem, box_ends}
 use Rattle.geometry.specs.Bounds.{bounds_at}
 use Rattle.geometry.specs.declared.bounds.Point.{Point}
 use Rattle.book.specs.declared.place.Entry.{Entry}
 use Rattle.geometry.specs.Ends.{low_ends, high_ends}
-use Rattle.file.specs.Encode.{bytes_of, le16, le32, twos_complement, point_bytes, entry_record, place_record, place_records}
+use Rattle.file.specs.Encode.{bytes_of, le16, le32, twos_complement, point_bytes, entry_record, place_record}
 use Rattle.file.proofs.Back.{short_back, long_back, low_fits, high_fits}
 use Rattle.file.proofs.Bytes.{twos_complement_is}
 use Rattle.file.proofs.Lengths.{length_entry_record}
-use Rattle.loaded.specs.Decode.{place_with, point_from, place_from, places_from}
+use Rattle.loaded.specs.Decode.{place_with, point_from, place_from}
 use Rattle.loaded.specs.Reading.{short_at, long_at}
 use Rattle.round_trip.proofs.Flat.{IsFilled, Fits}
-use Rattle.round_trip.proofs.Parts.{Bytes, short_written, take_add}
+use Rattle.round_trip.proofs.Parts.{Bytes, bytes_parts, take_add}
 
 filled : (e : Entry) (low high : Point) (target : ℕ) → low ≡ low_ends e.bounds → high ≡ high_ends e.bounds → target ≡ e.target → place_with (bounds_at low high) target ≡ Some e
 filled e low high target is_low is-high is-target =
     (λ i. place_with (bounds_at (is_low i) (is-high i)) (is-target i))
     ∙ ap (λ b. place_with b e.target) (bounds_at_lem e.bounds)
 
-place_read : (e : Entry) (rest : List ℕ) → e.target < 65536 → place_from (take 26 (entry_record e ++ rest)) ≡ Some e
+place_read : (e : Entry) → e.target < 65536 → place_from (entry_record e) ≡ Some e
 unfolding bytes_of
-place_read e rest small =
+place_read e small =
     let b = e.bounds in
     filled e _ _ _
     (λ i. record { easting = long_back b.easting.low [] (low_fits b.easting) i; northing = long_back b.northing.low [] (low_fits b.northing) i; level = long_back b.level.low [] (low_fits b.level) i })
     (λ i. record { easting = long_back b.easting.high [] (high_fits b.easting) i; northing = long_back b.northing.high [] (high_fits b.northing) i; level = long_back b.level.high [] (high_fits b.level) i })
     (short_back e.target [] small)
 
-pub places_read : (ps : List (Option Entry)) → AllByRecursion IsFilled ps → AllByRecursion Fits ps → places_from (length ps) (place_records ps) ≡ ps
+pub places_read : (ps : List (Option Entry)) → AllByRecursion IsFilled ps → AllByRecursion Fits ps → map place_from (map place_record ps) ≡ ps
 places_read [] f t = refl
-places_read (Some e ∷ ps) f t =
-    let past : drop 26 (entry_record e ++ place_records ps) ≡ place_records ps = drop_at (entry_record e) (place_records ps) 26 (length_entry_record e) in
-    let rest = ap (places_from (length ps)) past ∙ places_read ps f.1 t.1 in
-    λ i. place_read e (place_records ps) t.0 i ∷ rest i
+places_read (Some e ∷ ps) f t = let rest = places_read ps f.1 t.1 in λ i. place_read e t.0 i ∷ rest i
 places_read (None ∷ ps) f t = absurd f.0
+
+pub places_sized : (ps : List (Option Entry)) → AllByRecursion IsFilled ps → AllByRecursion (λ (r : List ℕ). length r ≡ 26) (map place_record ps)
+places_sized [] f = tt
+places_sized (Some e ∷ ps) f = (length_entry_record e, places_sized ps f.1)
+places_sized (None ∷ ps) f = absurd f.0
 
 -- a signed number's bytes are those it was read from
 long_written : (a b c d : ℕ) → a < 256 → b < 256 → c < 256 → d < 256 → le32 (to_z w32 (a + b * 256 + c * 65536 + d * 16777216)) ≡ a ∷ b ∷ c ∷ d ∷ []
@@ -55,6 +57,14 @@ long_written a b c d small-a small_b small-c small-d =
     let b3 : n / 256 / 256 / 256 % 256 ≡ d = ap (λ k. k % 256) n3 ∙ omega arith in
     ap (bytes_of 4) is ∙ (λ i. b0 i ∷ b1 i ∷ b2 i ∷ b3 i ∷ [])
 
+short_written : (a b : ℕ) → a < 256 → b < 256 → le16 (a + b * 256) ≡ a ∷ b ∷ []
+unfolding bytes_of
+short_written a b small-a small_b =
+    let low : (a + b * 256) % 256 ≡ a = omega arith in
+    let above : (a + b * 256) / 256 ≡ b = omega arith in
+    let high : (a + b * 256) / 256 % 256 ≡ b = ap (λ k. k % 256) above ∙ omega arith in
+    λ i. low i ∷ high i ∷ []
+
 long_first : (bytes : List ℕ) → 4 ≤ length bytes → Bytes bytes → le32 (long_at bytes 0) ≡ take 4 bytes
 long_first [] h small = absurd (omega arith)
 long_first (a ∷ []) h small = absurd (omega arith)
@@ -66,7 +76,7 @@ short_first : (bytes : List ℕ) → 2 ≤ length bytes → Bytes bytes → le16
 unfolding bytes_of
 short_first [] h small = absurd (omega arith)
 short_first (a ∷ []) h small = absurd (omega arith)
-short_first (a ∷ b ∷ bytes) h small = short_written a b [] small.0 small.1.0
+short_first (a ∷ b ∷ bytes) h small = short_written a b small.0 small.1.0
 
 module _ (bytes : List ℕ) (small : Bytes bytes) where
   byte_on : (i j : ℕ) → get_or bytes (i + j) 0 ≡ get_or (drop i bytes) j 0
@@ -113,9 +123,10 @@ module _ (bytes : List ℕ) (small : Bytes bytes) where
       ∙ (λ j. point_bytes (ends.0 j) ++ (point_bytes (ends.1 j) ++ le16 (short_at bytes 24)))
       ∙ pieces h)
 
-pub places_written : (count : ℕ) (records : List ℕ) → length records ≡ count * 26 → Bytes records → AllByRecursion IsFilled (places_from count records) → place_records (places_from count records) ≡ records
-places_written zero records cut small f = sym (nil_from_length records (omega arith))
-places_written (suc count) records cut small f =
-    let here = place_written (take 26 records) (All-take (λ b. b < 256) 26 records small) (simp length-take (omega arith)) f.0 in
-    let rest = places_written count (drop 26 records) (simp length-drop (omega arith)) (All-drop (λ b. b < 256) 26 records small) f.1 in
-    (λ i. here i ++ rest i) ∙ take-append-drop 26 records
+pub places_written : (records : List (List ℕ)) → AllByRecursion (λ (r : List ℕ). length r ≡ 26) records → Bytes (flat_map (λ r. r) records) → AllByRecursion IsFilled (map place_from records) → map place_record (map place_from records) ≡ records
+places_written [] sized small f = refl
+places_written (r ∷ records) sized small f =
+    let parts = bytes_parts r (flat_map (λ r. r) records) small in
+    let here = place_written r parts.0 sized.0 f.0 in
+    let rest = places_written records sized.1 parts.1 f.1 in
+    λ i. here i ∷ rest i

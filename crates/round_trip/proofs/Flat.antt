@@ -1,7 +1,7 @@
 -- The places of all nodes, one after another.
 use Rattle.std.proofs.Common.{◌≡◌, ℕ, suc, ◌+◌, ◌<◌, List, [], ◌∷◌, ◌++◌, length, get_or, None, Option, sym, refl, ap, ◌∙◌, arith, length-append, Some}
 use Rattle.std.proofs.ByRecursion.{All-append, All-from_get_or}
-use Rattle.std.proofs.lemmas.List.{append_assoc}
+use Rattle.std.proofs.lemmas.Grind.{flat_map-append}
 use Rattle.std.specs.List.{flat_map, AllByRecursion}
 use Rattle.book.specs.Model.{Node, no_node}
 use Rattle.book.specs.Spoilt.{spoilt_place, spoilt_node}
@@ -16,14 +16,10 @@ pub count_all : (ns : List Node) → length (all_places ns) ≡ places_in ns
 count_all [] = refl
 count_all (n ∷ ns) = length-append n.places (all_places ns) ∙ ap (λ k. length n.places + k) (count_all ns)
 
-joined_append : {X A : Type 0} (f : X → List A) (xs ys : List X) → flat_map f (xs ++ ys) ≡ flat_map f xs ++ flat_map f ys
-joined_append f [] ys = refl
-joined_append f (x ∷ xs) ys = ap (λ zs. f x ++ zs) (joined_append f xs ys) ∙ sym (append_assoc (f x) (flat_map f xs) (flat_map f ys))
-
 pub records_all : (ns : List Node) → entry_records ns ≡ place_records (all_places ns)
 records_all [] = refl
 records_all (n ∷ ns) =
-    ap (λ zs. place_records n.places ++ zs) (records_all ns) ∙ sym (joined_append place_record n.places (all_places ns))
+    ap (λ zs. place_records n.places ++ zs) (records_all ns) ∙ sym (flat_map-append place_record n.places (all_places ns))
 
 abbrev pub IsFilled : Option Entry → Type 0
 IsFilled (Some e) = Unit {0}

@@ -2,7 +2,7 @@ pub mod Flat
 pub mod Parts
 pub mod NodeParts
 pub mod EntryParts
-pub mod PickParts
+pub mod Laid
 pub mod WrittenLoads
 pub mod LoadedWrites
 pub mod Copies
