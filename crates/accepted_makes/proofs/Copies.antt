@@ -12,7 +12,7 @@ use Rattle.book_check.specs.declared.target.Target.{Target}
 use Rattle.book_check.specs.declared.target.Target.TheVariants.{Pick, Child}
 use Rattle.book_check.proofs.Meaning.{Holds, names_in, one_place, child_at}
 use Rattle.book_check.proofs.Naming.{place_there}
-use Rattle.makes.specs.Join.{sizes_of, count_at, renumbered, renumbered_node, root_of as rootNode, root_box}
+use Rattle.makes.specs.Join.{sizes_of, count_at, renumbered, renumbered_node, root_node, root_box}
 use Rattle.makes.specs.declared.seam.Sizes.{Sizes}
 use Rattle.makes.specs.Seams.{renumbered_count}
 use Rattle.accepted_makes.proofs.Enough.{Below, same_entry}
@@ -114,17 +114,17 @@ module _ (m b : Model) (before : Sizes) (acc : Accepted b)
 
   -- ---- the root of the copied book, which has entries
 
-  module _ (some : 0 < node_count b) (full : 0 < length (rootNode b).places) where
+  module _ (some : 0 < node_count b) (full : 0 < length (root_node b).places) where
     abbrev last : ℕ
     last = node_count b - 1
 
     last_in : last < node_count b
     last_in = omega arith
 
-    stays : (i : ℕ) (f : Entry) → Stands m (before.nodes + last) i f → get_or (renumbered_node (sizes_of b) before (rootNode b)).places i None ≡ Some f
+    stays : (i : ℕ) (f : Entry) → Stands m (before.nodes + last) i f → get_or (renumbered_node (sizes_of b) before (root_node b)).places i None ≡ Some f
     stays i f s = sym (ap (λ (x : Node). get_or x.places i None) (copy last last_in)) ∙ s
 
-    stays_in : (i : ℕ) (f : Entry) → Stands m (before.nodes + last) i f → i < length (renumbered_node (sizes_of b) before (rootNode b)).places
+    stays_in : (i : ℕ) (f : Entry) → Stands m (before.nodes + last) i f → i < length (renumbered_node (sizes_of b) before (root_node b)).places
     stays_in i f s = omega (arith, place_there m (before.nodes + last) i f s, ap (λ (x : Node). length x.places) (copy last last_in))
 
     pub box_copied : (r : Bounds) × (root_box b ≡ Some r)

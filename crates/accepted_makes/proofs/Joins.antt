@@ -14,12 +14,12 @@ use Rattle.book_check.specs.declared.target.Target.TheVariants.{Pick, Child}
 use Rattle.book_check.proofs.Meaning.{names_in}
 use Rattle.book_check.proofs.Naming.{place_there, node_there}
 use Rattle.book_check.proofs.Trees.{names_child}
-use Rattle.makes.specs.Join.{sizes_of, nothing, root_of as rootNode, root_box, both_books}
+use Rattle.makes.specs.Join.{sizes_of, nothing, root_node, root_box, both_books}
 use Rattle.makes.specs.Places.{place_for}
-use Rattle.makes.specs.Shapes.{never}
+use Rattle.std.proofs.lemmas.Option.{none-some}
 use Rattle.accepted_makes.specs.Joins.{JoinsAccepted, NeverRefused}
 use Rattle.accepted_makes.proofs.Enough.{Below, NamedChild, accepted_by, same_entry}
-use Rattle.accepted_makes.proofs.Roots.{Joinable, joinable_says, joined_both, both_count, both_picks, left_node, right_node, root_node, past_node, by_node, both_total}
+use Rattle.accepted_makes.proofs.Roots.{Joinable, joinable_says, joined_both, both_count, both_picks, left_node, right_node, root_node_is, past_node, by_node, both_total}
 use Rattle.accepted_makes.proofs.Copies.{behind, level_copied, names_copied, names_back, filled_copied, below_copied, only_copied, box_copied, holds_copied, peopled_copied}
 
 pub child_number : (a b : ℕ) → Child a ≡ Child b → a ≡ b
@@ -50,14 +50,14 @@ module _ (l r : Model) (some-l : 0 < node_count l) (some-r : 0 < node_count r) (
   second = record { bounds = right_box.0; target = nl + nr - 1 }
 
   abbrev newest : Node
-  newest = record { level = (rootNode l).level + 1; places = Some first ∷ Some second ∷ [] }
+  newest = record { level = (root_node l).level + 1; places = Some first ∷ Some second ∷ [] }
 
   root_is : node_of m (nl + nr) ≡ newest
   root_is =
-      root_node l r
-      ∙ (λ i. record { level = (rootNode l).level + 1; places = place_for (nl - 1) (left_box.1 i) ∷ place_for (nl + nr - 1) (right_box.1 i) ∷ [] })
+      root_node_is l r
+      ∙ (λ i. record { level = (root_node l).level + 1; places = place_for (nl - 1) (left_box.1 i) ∷ place_for (nl + nr - 1) (right_box.1 i) ∷ [] })
 
-  root_level : level_of m (nl + nr) ≡ (rootNode l).level + 1
+  root_level : level_of m (nl + nr) ≡ (root_node l).level + 1
   root_level = ap (λ (x : Node). x.level) root_is
 
   root_count : place_count m (nl + nr) ≡ 2
@@ -75,10 +75,10 @@ module _ (l r : Model) (some-l : 0 < node_count l) (some-r : 0 < node_count r) (
   root_back : (i : ℕ) (f : Entry) → Stands m (nl + nr) i f → ((i ≡ 0) × (first ≡ f)) ⊎ ((i ≡ 1) × (second ≡ f))
   root_back zero f s = inl (refl, same_entry m (nl + nr) 0 first f root_first s)
   root_back (suc zero) f s = inr (refl, same_entry m (nl + nr) 1 second f root_second s)
-  root_back (suc (suc i)) f s = never (sym (ap (λ (x : Node). get_or x.places (suc (suc i)) None) root_is) ∙ s)
+  root_back (suc (suc i)) f s = absurd (none-some f (sym (ap (λ (x : Node). get_or x.places (suc (suc i)) None) root_is) ∙ s))
 
   past_none : {P : Type 0} (n i : ℕ) (e : Entry) → nl + nr < n → Stands m n i e → P
-  past_none n i e h s = never (sym (ap (λ (x : Node). get_or x.places i None) (past_node l r n h)) ∙ s)
+  past_none n i e h s = absurd (none-some e (sym (ap (λ (x : Node). get_or x.places i None) (past_node l r n h)) ∙ s))
 
   -- ---- every place holds an entry that names what is there
 

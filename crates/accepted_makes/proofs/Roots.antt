@@ -1,20 +1,21 @@
 -- The box of a root that has entries, and the nodes of a joined book.
-use Rattle.std.proofs.Common.{◌≡◌, ℕ, ◌+◌, ◌-◌, ◌<◌, ◌≤◌, Bool, true, false, cond, not, ◌||◌, eqb, ltb, List, [], ◌∷◌, ◌++◌, map, length, get_or, Some, None, Ok, Err, Option, Result, sym, refl, ap, ◌∙◌, subst, ⊎_elim, zero-add, arith, length-append}
+use Rattle.std.proofs.Common.{◌≡◌, ℕ, ◌+◌, ◌-◌, ◌<◌, ◌≤◌, Bool, true, false, cond, not, ◌||◌, eqb, ltb, List, [], ◌∷◌, ◌++◌, map, length, get_or, Some, None, Ok, Err, Option, sym, refl, ap, ◌∙◌, subst, ⊎_elim, zero-add, arith, length-append}
 use Rattle.std.proofs.Math.ListN
 use Rattle.std.proofs.Math.ListN.{length-map}
 use Rattle.std.proofs.ByRecursion.{All-get_or}
 use Rattle.std.proofs.lemmas.List.{get_or_past, get_or_append_left, get_or-append-add, get_or_at, get_or-map}
 use Rattle.std.proofs.lemmas.Bool.{not-false, eqb-true, eqb-false, or_parts, cases_lt}
-use Rattle.refusal.specs.Told.{Told, plain}
+use Rattle.refusal.specs.Told.{plain}
 use Rattle.book.specs.Model.{Model, Node, no_node, node_of, node_count, pick_limit}
 use Rattle.book.specs.declared.place.Entry.{Entry}
 use Rattle.geometry.specs.Within.{Within}
 use Rattle.geometry.specs.declared.bounds.Bounds.{Bounds}
 use Rattle.book.specs.Totals.{places_in, total_places}
 use Rattle.book.proofs.Places.{places_in_append}
-use Rattle.makes.specs.Join.{sizes_of, nothing, count_at, renumbered, renumbered_node, root_of, root_boxes, root_box, new_root, both_books, root_empty, roots_apart, joinable, joined}
+use Rattle.makes.specs.Join.{sizes_of, nothing, count_at, renumbered, renumbered_node, root_node, root_boxes, root_box, new_root, both_books, root_empty, roots_apart, joinable, joined}
 use Rattle.makes.specs.Smallest.{smallest, box_of, LiesIn, IsSmallest}
 use Rattle.makes.specs.declared.seam.Sizes.{Sizes}
+use Rattle.makes.proofs.Fits.{not_refused}
 use Rattle.makes.specs.Seams.{renumbered_count}
 use Rattle.makes.specs.Smallests.{smallest_is}
 
@@ -45,19 +46,19 @@ box_kept own before level None = refl
 
 module _ (m : Model) (before : Sizes) where
   abbrev copied : List (Option Entry)
-  copied = (renumbered_node (sizes_of m) before (root_of m)).places
+  copied = (renumbered_node (sizes_of m) before (root_node m)).places
 
   boxes_count : length (root_boxes m) ≡ length copied
   boxes_count = simp length-map
 
   box_at_lem : (i : ℕ) → get_or (root_boxes m) i None ≡ box_of (get_or copied i None)
   box_at_lem i =
-      let f = renumbered (sizes_of m) nothing (root_of m).level in
-      let g = renumbered (sizes_of m) before (root_of m).level in
-      ListN.get_or-map box_of (map f (root_of m).places) i None
-      ∙ ap box_of (ListN.get_or-map f (root_of m).places i None)
-      ∙ sym (box_kept (sizes_of m) before (root_of m).level (get_or (root_of m).places i None))
-      ∙ ap box_of (sym (ListN.get_or-map g (root_of m).places i None))
+      let f = renumbered (sizes_of m) nothing (root_node m).level in
+      let g = renumbered (sizes_of m) before (root_node m).level in
+      ListN.get_or-map box_of (map f (root_node m).places) i None
+      ∙ ap box_of (ListN.get_or-map f (root_node m).places i None)
+      ∙ sym (box_kept (sizes_of m) before (root_node m).level (get_or (root_node m).places i None))
+      ∙ ap box_of (sym (ListN.get_or-map g (root_node m).places i None))
 
   -- an entry that stays in the root, wherever its book goes
   pub root_some : (i : ℕ) (e : Entry) → i < length copied → get_or copied i None ≡ Some e → (r : Bounds) × (root_box m ≡ Some r)
@@ -69,13 +70,9 @@ module _ (m : Model) (before : Sizes) where
 -- ---- two books that fit
 
 pub record Joinable (l r : Model) : Type 0 where
-  pub level : (root_of l).level ≡ (root_of r).level
-  pub left_some : 0 < length (root_of l).places
-  pub right_some : 0 < length (root_of r).places
-
-not_refused : (b : Bool) (t : Told) (rest : Result (Unit {0}) Told) → cond b (Err t) rest ≡ Ok tt → (b ≡ false) × (rest ≡ Ok tt)
-not_refused true t rest e = let z : ◌≡◌ {A = ℕ} 0 1 = cc in absurd (omega arith)
-not_refused false t rest e = (refl, e)
+  pub level : (root_node l).level ≡ (root_node r).level
+  pub left_some : 0 < length (root_node l).places
+  pub right_some : 0 < length (root_node r).places
 
 pub joinable_says : (l r : Model) → joinable l r ≡ Ok tt → Joinable l r
 joinable_says l r e =
@@ -83,11 +80,11 @@ joinable_says l r e =
     let b = not_refused (ltb 2048 (pick_limit l + pick_limit r)) (plain 9) _ a.1 in
     let c = not_refused (roots_apart l r) (plain 10) (cond (root_empty l || root_empty r) (Err (plain 11)) (Ok tt)) b.1 in
     let d = not_refused (root_empty l || root_empty r) (plain 11) (Ok tt) c.1 in
-    let v = or_parts (not (eqb (root_of l).level (root_of r).level)) (eqb (root_of l).level 7) c.0 in
+    let v = or_parts (not (eqb (root_node l).level (root_node r).level)) (eqb (root_node l).level 7) c.0 in
     let w = or_parts (root_empty l) (root_empty r) d.0 in
-    let x = eqb-false (length (root_of l).places) 0 w.0 in
-    let y = eqb-false (length (root_of r).places) 0 w.1 in
-    record { level = eqb-true _ _ (not-false (eqb (root_of l).level (root_of r).level) v.0); left_some = omega (arith, x); right_some = omega (arith, y) }
+    let x = eqb-false (length (root_node l).places) 0 w.0 in
+    let y = eqb-false (length (root_node r).places) 0 w.1 in
+    record { level = eqb-true _ _ (not-false (eqb (root_node l).level (root_node r).level) v.0); left_some = omega (arith, x); right_some = omega (arith, y) }
 
 pub joined_both : (l r : Model) → joinable l r ≡ Ok tt → both_books l r ≡ joined l r
 unfolding joined
@@ -131,8 +128,8 @@ module _ (l r : Model) where
       ∙ get_or_append_left rights (new_root l r ∷ []) no_node n (omega (arith, rights_count))
       ∙ get_or-map (renumbered_node (sizes_of r) (sizes_of l)) r.nodes n no_node no_node h
 
-  pub root_node : node_of (both_books l r) (node_count l + node_count r) ≡ new_root l r
-  root_node = past_left (node_count r) ∙ get_or_at rights (new_root l r) [] no_node (node_count r) rights_count
+  pub root_node_is : node_of (both_books l r) (node_count l + node_count r) ≡ new_root l r
+  root_node_is = past_left (node_count r) ∙ get_or_at rights (new_root l r) [] no_node (node_count r) rights_count
 
   pub past_node : (n : ℕ) → node_count l + node_count r < n → node_of (both_books l r) n ≡ no_node
   past_node n h = get_or_past (both_books l r).nodes n no_node (omega (arith, both_count))

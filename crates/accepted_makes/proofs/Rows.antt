@@ -8,7 +8,7 @@ use Rattle.book_check.proofs.Naming.{place_there}
 use Rattle.makes.specs.Places.{place_for}
 use Rattle.makes.specs.Sixteens.{named, group, node_with}
 use Rattle.makes.specs.Groups.{named_length, named_at, group_length, group_at, above, above_length, above_at}
-use Rattle.makes.specs.Shapes.{never}
+use Rattle.std.proofs.lemmas.Option.{none-some}
 use Rattle.accepted_makes.specs.Tallies.{Full}
 use Rattle.accepted_makes.proofs.Enough.{Below}
 use Rattle.accepted_makes.proofs.Roots.{smallest_some, in_smallest}
@@ -23,7 +23,7 @@ full_above xs full q h =
 
 place_parts : (a : ℕ) (o : Option Bounds) (e : Entry) → place_for a o ≡ Some e → (e.target ≡ a) × (o ≡ Some e.bounds)
 place_parts a (Some b) e h = (cc, cc)
-place_parts a None e h = never h
+place_parts a None e h = absurd (none-some e h)
 
 -- what is known of an entry at place i of group k of a row
 pub record Sits (t k i : ℕ) (xs : List (Option Bounds)) (e : Entry) : Type 0 where

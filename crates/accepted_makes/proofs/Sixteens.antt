@@ -19,7 +19,7 @@ use Rattle.book_check.proofs.Trees.{names_pick, names_child}
 use Rattle.makes.specs.Sixteens.{named, group_count, group, node_with, by_sixteens, places_for}
 use Rattle.makes.specs.Groups.{above, above_length}
 use Rattle.makes.specs.Rows.{leaf_node, middle_node, top_node}
-use Rattle.makes.specs.Shapes.{never}
+use Rattle.std.proofs.lemmas.Option.{none-some}
 use Rattle.makes.specs.Trees.{tree_by}
 use Rattle.accepted_makes.specs.Tallies.{Full, SixteensAccepted}
 use Rattle.accepted_makes.proofs.Enough.{Below, NamedChild, accepted_by}
@@ -114,7 +114,7 @@ module _ (bs : List (Option Bounds)) (ks : List Kind) (some : 0 < length bs) (mo
       ∙ ap (λ z. node_with 2 (group (named leaves (above (above bs))) z)) e
 
   past_none : {P : Type 0} (n i : ℕ) (e : Entry) → node_count m ≤ n → Stands m n i e → P
-  past_none n i e h s = never (sym (ap (λ (x : Node). get_or x.places i None) (get_or_past (by_sixteens bs) n no_node h)) ∙ s)
+  past_none n i e h s = absurd (none-some e (sym (ap (λ (x : Node). get_or x.places i None) (get_or_past (by_sixteens bs) n no_node h)) ∙ s))
 
   -- a leaf, a node above the leaves, the one above those, or nowhere
   by_row : (P : ℕ → Type 0) → ((n : ℕ) → n < leaves → P n) → (16 < picks → (k : ℕ) → k < middles → P (leaves + k)) → (16 < leaves → P (leaves + middles)) → ((n : ℕ) → node_count m ≤ n → P n) → (n : ℕ) → P n

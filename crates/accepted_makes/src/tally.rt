@@ -9,12 +9,9 @@ use makes::tally::Tally;
 /// Checks a casing string. None is refused, and each of its collars is named: the answer is the number of its joints.
 /// Nor is any other tree by sixteens over boxes that are all there.
 pub fn check_tally(tally: &Tally) -> u16
-    ensures answer { result ≡ tally.now.joints }
+    ensures answer { result ≡ tally.now.joints.count }
     ensures trees { SixteensAccepted }
     ensures tallies { TalliesAccepted }
 {
-    match check(tally) {
-        Ok(picks) => picks,
-        Err(_) => 0,
-    }
+    check(tally).unwrap_or(0)
 }

@@ -10,7 +10,7 @@ use Rattle.book.specs.declared.kind.Kind.TheVariants.{Marker}
 use Rattle.book.specs.declared.place.Entry.{Entry}
 use Rattle.geometry.specs.declared.bounds.Bounds.{Bounds}
 use Rattle.makes.specs.Places.{place_for}
-use Rattle.makes.specs.Join.{sizes_of, nothing, renumbered, renumbered_node, root_of, root_boxes, root_box, new_root, both_books}
+use Rattle.makes.specs.Join.{sizes_of, nothing, renumbered, renumbered_node, root_node, root_boxes, root_box, new_root, both_books}
 use Rattle.makes.specs.Seam.{known, seam_root, along}
 use Rattle.makes.specs.declared.seam.Seam.{Seam}
 use Rattle.makes.specs.declared.seam.Sizes.{Sizes}
@@ -31,17 +31,17 @@ box_all sofar whole bs i h inv = sym (around_none sofar) ∙ ap (around_both sof
 pub root_boxes_count : (m : Model) (s : Sizes) → s ≡ sizes_of m → length (root_boxes m) ≡ place_count m (s.nodes - 1)
 root_boxes_count m s e = simp length-map (ap (λ (z : Sizes). place_count m (z.nodes - 1)) (sym e))
 
-root_boxes_at : (m : Model) (i : ℕ) → box_of (renumbered (sizes_of m) nothing (root_of m).level (place_of m (node_count m - 1) i)) ≡ get_or (root_boxes m) i None
+root_boxes_at : (m : Model) (i : ℕ) → box_of (renumbered (sizes_of m) nothing (root_node m).level (place_of m (node_count m - 1) i)) ≡ get_or (root_boxes m) i None
 root_boxes_at m i =
-    let f = renumbered (sizes_of m) nothing (root_of m).level in
-    sym (ListN.get_or-map box_of (map f (root_of m).places) i None ∙ ap box_of (ListN.get_or-map f (root_of m).places i None))
+    let f = renumbered (sizes_of m) nothing (root_node m).level in
+    sym (ListN.get_or-map box_of (map f (root_node m).places) i None ∙ ap box_of (ListN.get_or-map f (root_node m).places i None))
 
 -- the box of one entry of the root, as the code comes to it
 pub root_box_at : (m : Model) (s : Sizes) → s ≡ sizes_of m → (level i : ℕ) (was now' : Option Entry) (b : Option Bounds) → level ≡ level_of m (s.nodes - 1) → was ≡ place_of m (s.nodes - 1) i → now' ≡ renumbered s nothing level was → b ≡ box_of now' → b ≡ get_or (root_boxes m) i None
 root_box_at m s e level i was now' b p q r t =
     t ∙ ap box_of (r ∙ ap (λ (z : Sizes). renumbered z nothing level was) e
     ∙ ap (λ v. renumbered (sizes_of m) nothing v was) (p ∙ ap (λ (z : Sizes). level_of m (z.nodes - 1)) e)
-    ∙ ap (renumbered (sizes_of m) nothing (root_of m).level) (q ∙ ap (λ (z : Sizes). place_of m (z.nodes - 1) i) e))
+    ∙ ap (renumbered (sizes_of m) nothing (root_node m).level) (q ∙ ap (λ (z : Sizes). place_of m (z.nodes - 1) i) e))
     ∙ root_boxes_at m i
 
 -- a list made by asking for each element is the list
@@ -66,7 +66,7 @@ module _ (l r : Model) where
       ∙ ap (λ (x : Sizes). map (λ n. renumbered_node x (sizes_of l) (node_of r n)) (range_with_len 0 x.nodes)) e
       ∙ asked (renumbered_node (sizes_of r) (sizes_of l)) r.nodes no_node
 
-  same_root : (y z : Sizes) (level : ℕ) (a b : Option Bounds) → y ≡ sizes_of l → z ≡ sizes_of r → level ≡ (root_of l).level + 1 → a ≡ root_box l → b ≡ root_box r → (level ≡ (new_root l r).level) × (place_for (y.nodes - 1) a ∷ place_for (y.nodes + z.nodes - 1) b ∷ [] ≡ (new_root l r).places)
+  same_root : (y z : Sizes) (level : ℕ) (a b : Option Bounds) → y ≡ sizes_of l → z ≡ sizes_of r → level ≡ (root_node l).level + 1 → a ≡ root_box l → b ≡ root_box r → (level ≡ (new_root l r).level) × (place_for (y.nodes - 1) a ∷ place_for (y.nodes + z.nodes - 1) b ∷ [] ≡ (new_root l r).places)
   same_root y z level a b d e f p q = (
     f,
     ap (λ (x : Sizes). place_for (x.nodes - 1) a ∷ place_for (x.nodes + z.nodes - 1) b ∷ []) d
@@ -79,7 +79,7 @@ module _ (l r : Model) where
   asked_picks m z e = ap (λ (x : Sizes). map (λ p. known (kind_of m p)) (range_with_len 0 x.picks)) e ∙ asked_kinds m
 
   -- what a join keeps gives both books
-  pub along_both : (s : Seam) → s.left ≡ sizes_of l → s.right ≡ sizes_of r → s.level ≡ (root_of l).level + 1 → s.left_box ≡ root_box l → s.right_box ≡ root_box r → along (Some s) l r ≡ both_books l r
+  pub along_both : (s : Seam) → s.left ≡ sizes_of l → s.right ≡ sizes_of r → s.level ≡ (root_node l).level + 1 → s.left_box ≡ root_box l → s.right_box ≡ root_box r → along (Some s) l r ≡ both_books l r
   unfolding along
   along_both s d e f p q =
       let root = same_root s.left s.right s.level s.left_box s.right_box d e f p q in

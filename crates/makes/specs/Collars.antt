@@ -1,5 +1,5 @@
 -- Collars in range, and the box around a run of them.
-use Rattle.std.specs.Prelude.{◌≡◌, ℕ, zero, suc, ◌+◌, ◌-◌, ◌*◌, ◌<◌, ◌≤◌, true, false, ◌&&◌, map, take, drop, ℤ, pos, negsuc, ◌-ℤ◌, ◌≤ℤ◌, Some, Ok, Err, Option, FitsSigned, nat_le}
+use Rattle.std.specs.Prelude.{◌≡◌, ℕ, zero, suc, ◌+◌, ◌-◌, ◌*◌, ◌<◌, ◌≤◌, true, false, ◌&&◌, map, take, drop, ℤ, pos, ◌-ℤ◌, ◌≤ℤ◌, Some, Ok, Err, Option, nat_le}
 use Rattle.std.proofs.Math.Path.{refl}
 use Rattle.std.proofs.Common.{sym, ◌∙◌, ap, arith, zero-add, to_z, of_z}
 use Rattle.std.proofs.lemmas.Nat.{mul-le}
@@ -21,6 +21,7 @@ use Rattle.geometry.proofs.Boxes.{same_point, box_made}
 use Rattle.makes.specs.Smallest.{around_both, smallest}
 use Rattle.makes.specs.Tally.{sized, collar_at, hangs, collar_boxes}
 use Rattle.makes.specs.Tallies.{tally_of}
+use Rattle.makes.specs.declared.tally.Joints.{Joints}
 use Rattle.makes.specs.declared.tally.Tally.{Tally}
 use Rattle.makes.specs.Offsets.{ranges}
 use Rattle.makes.specs.Smallests.{around_none}
@@ -40,15 +41,10 @@ sizes_of_lem joints long e =
     record { some = leb-true 1 joints b.0; few = leb-true joints 1000 b.1; long_some = leb-true 1 long c.0; short = leb-true long 5000 c.1 }
 
 -- how far down a joint is
-pub down_most : (j long : ℕ) → j < 1000 → long ≤ 5000 → j * long ≤ 4995000
-down_most j long h k = mul-le j long 999 5000 (omega arith) k
-
-pub fits_wide : (z : ℤ) → negsuc 19999999 ≤ℤ z → z ≤ℤ most_coordinate → FitsSigned w32 z
-fits_wide (pos n) p q = record { sfits = omega (arith, ints) }
-fits_wide (negsuc n) p q = record { sfits = omega (arith, ints) }
-
-pub down_fits : (d : ℕ) → d ≤ 4995000 → FitsSigned w32 (pos d)
-down_fits d h = record { sfits = omega arith }
+pub down_joint : (s : Joints) (j : ℕ) → j < s.count → j * s.length ≤ 4995000
+down_joint s j h =
+    let sizes = sizes_of_lem s.count s.length s.sizes in
+    mul-le j s.length 999 5000 (omega (arith, sizes.few)) sizes.short
 
 pub east_is : (x : ℤ) → (least_coordinate ≤ℤ x) × (x ≤ℤ most_coordinate) → to_z w32 (of_z w32 x) ≡ x
 east_is x r = omega (arith, ints)
@@ -57,11 +53,11 @@ east_is x r = omega (arith, ints)
 pub collar_is : (top : Point) (long j : ℕ) → point_in_range top ≡ true → j * long ≤ 4995000 → to_z w32 (of_z w32 (to_z w32 (of_z w32 top.level) -ℤ to_z w32 (j * long))) ≡ top.level -ℤ pos (j * long)
 collar_is top long j e h = let r = ranges top e in omega (arith, ints, r.2)
 
-pub made_tally : (t : Tally) → Ok t ≡ tally_of t.top t.joints t.length
+pub made_tally : (t : Tally) → Ok t ≡ tally_of t.top t.joints.count t.joints.length
 unfolding tally_of
 made_tally t =
-    sym (tested_yes 24 (sized t.joints t.length) _ t.sizes
-    ∙ tested_yes 5 (hangs t.top t.joints t.length) (λ h. Ok (record { top = t.top; joints = t.joints; length = t.length; sizes = t.sizes; hung = h })) t.hung)
+    sym (tested_yes 24 (sized t.joints.count t.joints.length) _ t.joints.sizes
+    ∙ tested_yes 5 (hangs t.top t.joints.count t.joints.length) (λ h. Ok (record { top = t.top; joints = t.joints; hung = h })) t.hung)
 
 pub not_sized : (top : Point) (joints long : ℕ) → sized joints long ≡ false → Err (plain 24) ≡ tally_of top joints long
 unfolding tally_of
@@ -71,7 +67,7 @@ pub not_hung : (top : Point) (joints long : ℕ) → sized joints long ≡ true 
 unfolding tally_of
 not_hung top joints long s e =
     sym (tested_yes 24 (sized joints long) _ s
-    ∙ tested_no 5 (hangs top joints long) (λ h. Ok (record { top = top; joints = joints; length = long; sizes = s; hung = h })) e)
+    ∙ tested_no 5 (hangs top joints long) (λ h. Ok (record { top = top; joints = record { count = joints; length = long; sizes = s }; hung = h })) e)
 
 -- joint k hangs in range
 abbrev pub Hung : Point → ℕ → ℕ → Type 0
@@ -80,11 +76,11 @@ Hung top long k = (point_in_range top ≡ true) × (least_coordinate ≤ℤ (top
 deeper : (j k long : ℕ) → j ≤ k → j * long ≤ k * long
 deeper j k long h = mul-le j long k long h (omega arith)
 
-pub hung_at : (t : Tally) (k : ℕ) → k < t.joints → Hung t.top t.length k
+pub hung_at : (t : Tally) (k : ℕ) → k < t.joints.count → Hung t.top t.joints.length k
 hung_at t k h =
-    let parts = and_parts (point_in_range t.top) (point_in_range (collar_at t.top t.length (t.joints - 1))) t.hung in
-    let low = (ranges (collar_at t.top t.length (t.joints - 1)) parts.1).2 in
-    let less = deeper k (t.joints - 1) t.length (omega arith) in
+    let parts = and_parts (point_in_range t.top) (point_in_range (collar_at t.top t.joints.length (t.joints.count - 1))) t.hung in
+    let low = (ranges (collar_at t.top t.joints.length (t.joints.count - 1)) parts.1).2 in
+    let less = deeper k (t.joints.count - 1) t.joints.length (omega arith) in
     (parts.0, omega (arith, ints, low.0, less))
 
 -- the box from one collar down to another
@@ -92,7 +88,7 @@ module _ (top : Point) (long j k : ℕ) (le : j ≤ k) (hung : Hung top long k) 
   flat : (x : ℤ) → (least_coordinate ≤ℤ x) × (x ≤ℤ most_coordinate) → Span
   flat x r = record { low = x; high = x; least = r.0; ordered = omega (arith, ints); most = r.1 }
 
-  box_down : Bounds
+  pub box_down : Bounds
   box_down =
       let r = ranges top hung.0 in
       record {
@@ -116,7 +112,7 @@ module _ (top : Point) (long j k : ℕ) (le : j ≤ k) (hung : Hung top long k) 
   unfolding box_down flat
   high_down = refl
 
-  down_is : bounds_at (collar_at top long k) (collar_at top long j) ≡ Some box_down
+  pub down_is : bounds_at (collar_at top long k) (collar_at top long j) ≡ Some box_down
   down_is = sym (box_made box_down (collar_at top long k) (collar_at top long j) low_down high_down)
 
 min_same : (x : ℤ) → x ≡ int_min x x
@@ -176,15 +172,15 @@ drop_counting (suc k) a (suc n) h =
     drop_counting k (a + 1) n (omega arith) ∙ ap (λ x. range_with_len x (n - k)) p ∙ ap (range_with_len (a + suc k)) q
 
 -- the box around a run of collars reaches from the lowest to the highest
-pub run_is : (t : Tally) (start end : ℕ) → start < end → end ≤ t.joints → bounds_at (collar_at t.top t.length (end - 1)) (collar_at t.top t.length start) ≡ smallest (take (end - start) (drop start (collar_boxes t.top t.joints t.length)))
+pub run_is : (t : Tally) (start end : ℕ) → start < end → end ≤ t.joints.count → bounds_at (collar_at t.top t.joints.length (end - 1)) (collar_at t.top t.joints.length start) ≡ smallest (take (end - start) (drop start (collar_boxes t.top t.joints.count t.joints.length)))
 run_is t start end h k =
-    let f = collar_box t.top t.length in
-    let left = t.joints - start in
-    let run : drop start (map f (range_with_len 0 t.joints)) ≡ map f (range_with_len start left) =
-    drop-map f start (range_with_len 0 t.joints) ∙ ap (map f) (drop_counting start 0 t.joints (omega arith) ∙ ap (λ x. range_with_len x left) (zero-add start))
+    let f = collar_box t.top t.joints.length in
+    let left = t.joints.count - start in
+    let run : drop start (map f (range_with_len 0 t.joints.count)) ≡ map f (range_with_len start left) =
+    drop-map f start (range_with_len 0 t.joints.count) ∙ ap (map f) (drop_counting start 0 t.joints.count (omega arith) ∙ ap (λ x. range_with_len x left) (zero-add start))
     in
     let size : suc (end - start - 1) ≡ end - start = omega arith in
     sym (ap (λ ys. smallest (take (end - start) ys)) run
     ∙ ap smallest (take-map-range_with_len f start left (end - start) (omega arith))
     ∙ ap (λ m. smallest (map f (range_with_len start m))) (sym size)
-    ∙ run_down t.top t.length (end - 1) (end - start - 1) start (omega arith) (hung_at t (end - 1) (omega arith)))
+    ∙ run_down t.top t.joints.length (end - 1) (end - start - 1) start (omega arith) (hung_at t (end - 1) (omega arith)))

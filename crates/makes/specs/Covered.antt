@@ -1,5 +1,5 @@
 -- Nodes and places of the tree by sixteens, from the number of picks alone.
-use Rattle.std.specs.Prelude.{ℕ, ◌+◌, ◌-◌, ◌<◌, ◌≤◌, cond, ◌&&◌, List, take, drop, Some, None, Option, ◌==◌, nat_le, nat_lt}
+use Rattle.std.specs.Prelude.{ℕ, ◌+◌, ◌-◌, ◌*◌, ◌<◌, ◌≤◌, cond, ◌&&◌, List, take, drop, Some, None, Option, ◌==◌, nat_le, nat_lt}
 use Rattle.book.specs.declared.place.Entry.{Entry}
 use Rattle.geometry.specs.declared.bounds.Bounds.{Bounds}
 use Rattle.makes.specs.Places.{place_for}
@@ -32,6 +32,18 @@ top_row n =
       places = group_count (group_count n);
       below = 256;
     }
+
+-- the row above, which names this row's nodes, unless this row is one node
+abbrev pub row_above : Row → Option Row
+row_above r =
+    cond (nat_le r.places 16) None
+    (Some (record {
+      level = r.level + 1;
+      first = r.first + group_count r.places;
+      target = r.first;
+      places = group_count r.places;
+      below = 16 * r.below;
+    }))
 
 -- the row of a node of the tree over n picks, at most 1,000
 abbrev pub row_of : ℕ → ℕ → Option Row

@@ -1,5 +1,5 @@
 -- What lies below a place of the tree by sixteens.
-use Rattle.std.specs.Prelude.{◌≡◌, ℕ, zero, suc, ◌+◌, ◌-◌, ◌*◌, ◌<◌, ◌≤◌, min, List, [], ◌∷◌, ◌++◌, length, get_or, take, drop, Some, None, Option, ◌==◌, nat_le, nat_lt, slice_index_or, slice_range, refl}
+use Rattle.std.specs.Prelude.{◌≡◌, ℕ, zero, suc, ◌+◌, ◌-◌, ◌*◌, ◌<◌, ◌≤◌, min, List, [], ◌∷◌, ◌++◌, length, get_or, take, drop, Some, None, Option, MatchOption, ◌==◌, nat_le, nat_lt, slice_index_or, slice_range, refl}
 use Rattle.std.proofs.Common.{⊎_elim, sym, ◌∙◌, ap, subst, zero-add, suc-add, one-mul, add-zero, arith, length-drop}
 use Rattle.std.proofs.lemmas.List.{get_or_past, get_or-drop, drop-drop, take_all}
 use Rattle.std.proofs.lemmas.Bool.{cases_lt, cond_both, ltb-true, ltb-false, eqb-true}
@@ -135,13 +135,6 @@ row_good n node some most =
     cond_both (node == upper) (Some (top_row n)) None (Good n node)
     (λ l. good_top n node most (eqb-true node upper l) some) (λ l. tt)))))
 
-pub covers_some : (n node : ℕ) (r : Row) → Some r ≡ row_of n node → 0 < n → n ≤ 1000 → (q end : ℕ) → q < r.places → end ≡ min (r.below * q + r.below) n → (r.below * q < end) × (end ≤ n)
-covers_some n node r p some most q end h f =
-    let facts : RowAt n node r = subst (Good n node) (sym p) (row_good n node some most) in
-    let far = facts.spread q h in
-    let wide = facts.wide in
-    (omega arith, omega arith)
-
 -- the answers at a node, from its row
 module _ (n node : ℕ) (bs : List (Option Bounds)) (e : length bs ≡ n) (most : n ≤ 1000) where
   node_by : (o : Option Row) → o ≡ row_of n node → slice_index_or (by_sixteens bs) node no_node ≡ row_node bs o node
@@ -161,6 +154,11 @@ module _ (n node : ℕ) (bs : List (Option Bounds)) (e : length bs ≡ n) (most 
 
   pub place_none : (i : ℕ) → None ≡ row_of n node → None ≡ place_at (by_sixteens bs) node i
   place_none i p = sym (ap (λ (ps : List (Option Entry)). get_or ps i None) (places_none p))
+
+  -- a node's level, from its row if it has one
+  pub level_by : (o : Option Row) (v : ℕ) → o ≡ row_of n node → MatchOption o (v ≡ 0) (λ r. v ≡ r.level) → v ≡ level_at (by_sixteens bs) node
+  level_by (Some r) v p h = h ∙ level_some r p
+  level_by None v p h = h ∙ level_none p
 
   module _ (r : Row) (p : Some r ≡ row_of n node) (some : 0 < n) where
     pub facts : RowAt n node r
@@ -197,3 +195,8 @@ module _ (n node : ℕ) (bs : List (Option Bounds)) (e : length bs ≡ n) (most 
     place_covered i end h f =
         let q = 16 * (node - r.first) + i in
         sym (place_at_lem i h ∙ ap (place_for (r.target + q)) (facts.box bs q ∙ clip r.below (r.below * q) end bs (f ∙ ap (min (r.below * q + r.below)) (sym e))))
+
+  -- how many places a node has, from its row if it has one
+  pub count_by : (some : 0 < n) (o : Option Row) (v : ℕ) → o ≡ row_of n node → MatchOption o (v ≡ 0) (λ r. v ≡ min (r.places - 16 * (node - r.first)) 16) → v ≡ length (places_at (by_sixteens bs) node)
+  count_by some (Some r) v p h = h ∙ count_some r p some
+  count_by some None v p h = h ∙ count_none p

@@ -32,12 +32,12 @@ renumbered_node own before n =
     record { level = n.level; places = map (renumbered own before n.level) n.places }
 
 -- the last node
-abbrev pub root_of : Model → Node
-root_of m = node_of m (node_count m - 1)
+abbrev pub root_node : Model → Node
+root_node m = node_of m (node_count m - 1)
 
 -- the boxes of the root's places, those without a target in the book left out
 abbrev pub root_boxes : Model → List (Option Bounds)
-root_boxes m = map box_of (renumbered_node (sizes_of m) nothing (root_of m)).places
+root_boxes m = map box_of (renumbered_node (sizes_of m) nothing (root_node m)).places
 
 -- the smallest box around the entries left in the root, if one is left
 abbrev pub root_box : Model → Option Bounds
@@ -47,7 +47,7 @@ root_box m = smallest (root_boxes m)
 abbrev pub new_root : Model → Model → Node
 new_root l r =
     record {
-      level = (root_of l).level + 1;
+      level = (root_node l).level + 1;
       places = place_for (node_count l - 1) (root_box l) ∷ place_for (node_count l + node_count r - 1) (root_box r) ∷ [];
     }
 
@@ -62,11 +62,11 @@ both_books l r =
     }
 
 abbrev pub root_empty : Model → Bool
-root_empty m = length (root_of m).places == 0
+root_empty m = length (root_node m).places == 0
 
 -- the root levels differ, or leave no level for the new root
 abbrev pub roots_apart : Model → Model → Bool
-roots_apart l r = not ((root_of l).level == (root_of r).level) || (root_of l).level == 7
+roots_apart l r = not ((root_node l).level == (root_node r).level) || (root_node l).level == 7
 
 -- whether two books can be joined, and the number that refuses them
 abbrev pub joinable : Model → Model → Result (Unit {0}) Told

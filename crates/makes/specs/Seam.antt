@@ -1,6 +1,7 @@
 -- A joined book as a join holds it: its sizes and its root as they were measured, the rest asked of its two books.
 use Rattle.std.specs.Prelude.{ℕ, ◌+◌, ◌-◌, cond, List, [], ◌∷◌, ◌++◌, map, Some, None, Option, ◌==◌, nat_lt, slice_index_or}
 use Rattle.std.specs.List.{range_with_len}
+use Rattle.std.specs.Option.{unwrap_or}
 use Rattle.book.specs.Model.{Node, Model, no_node, node_of, kind_of, empty_book}
 use Rattle.book.specs.declared.kind.Kind.{Kind}
 use Rattle.book.specs.declared.kind.Kind.TheVariants.{Marker}
@@ -39,8 +40,7 @@ part_node s l r Outside = no_node
 
 -- every pick of a book has a kind, so the other is never wanted
 abbrev pub known : Option Kind → Kind
-known (Some k) = k
-known None = Marker
+known kind = unwrap_or kind Marker
 
 -- the book of a join with this seam over two books; without a seam the empty one
 unfoldable pub along : Option Seam → Model → Model → Model

@@ -1,11 +1,12 @@
 -- What a joined book answers, from what the join keeps.
-use Rattle.std.specs.Prelude.{◌≡◌, ℕ, zero, suc, ◌+◌, ◌-◌, ◌<◌, ◌≤◌, true, false, ltb, [], ◌∷◌, ◌++◌, map, length, get_or, Some, None, Option, ◌==◌, nat_lt, slice_index_or, refl}
+use Rattle.std.specs.Prelude.{◌≡◌, ℕ, zero, suc, ◌+◌, ◌-◌, ◌<◌, ◌≤◌, true, false, ltb, [], ◌∷◌, ◌++◌, map, length, get_or, Some, None, Option, MatchOption, ◌==◌, nat_lt, slice_index_or, refl}
 use Rattle.std.proofs.Math.Path.{sym, ap}
 use Rattle.std.proofs.Common.{◌∙◌, ⊎_elim, arith, length-append}
 use Rattle.std.proofs.Math.ListN
 use Rattle.std.specs.List.{range_with_len}
 use Rattle.std.proofs.lemmas.List.FromFn.{length-map-range_with_len, get_or-map-range_with_len}
 use Rattle.std.proofs.lemmas.List.{get_or_past, get_or_append_left, get_or-append_right, get_or_at, get_or-map, length-map}
+use Rattle.std.proofs.lemmas.Option.{none-some}
 use Rattle.std.proofs.lemmas.Bool.{cases_Bool, cond-true, cond-false, cond_both, ltb-true, ltb-false, eqb-true, eqb-false}
 use Rattle.book.specs.Model.{Node, Model, BookShape, no_node, node_of, node_count, pick_limit, level_of, place_count, place_of, kind_of, empty_book}
 use Rattle.book.specs.declared.kind.Kind.{Kind}
@@ -50,8 +51,8 @@ module _ (s : Seam) (l r : Model) where
       ∙ get_or_append_left (map f (range_with_len 0 s.right.nodes)) _ no_node (n - s.left.nodes) (simp length-map-range_with_len k)
       ∙ get_or-map-range_with_len f 0 s.right.nodes (n - s.left.nodes) (n - s.left.nodes) no_node k (omega arith)
 
-  root_node : (n : ℕ) → s.left.nodes ≤ n → n - s.left.nodes ≡ s.right.nodes → node_of (along (Some s) l r) n ≡ seam_root s
-  root_node n h e =
+  root_node_is : (n : ℕ) → s.left.nodes ≤ n → n - s.left.nodes ≡ s.right.nodes → node_of (along (Some s) l r) n ≡ seam_root s
+  root_node_is n h e =
       past_left n h
       ∙ get_or_at (map (λ k. part_node s l r (Right k)) (range_with_len 0 s.right.nodes)) (seam_root s) [] no_node (n - s.left.nodes) (length-map-range_with_len _ 0 s.right.nodes ∙ sym e)
 
@@ -70,7 +71,7 @@ module _ (s : Seam) (l r : Model) where
       (λ f.
       let k : s.right.nodes ≤ n - s.left.nodes = ltb-false _ _ f in
       cond_both (n - s.left.nodes == s.right.nodes) Root Outside P
-      (λ i. root_node n h (eqb-true _ _ i))
+      (λ i. root_node_is n h (eqb-true _ _ i))
       (λ i. let ne = eqb-false (n - s.left.nodes) s.right.nodes i in outside_node n (omega (arith, ne)))))
 
   kinds_left : (p : ℕ) → p < s.left.picks → kind_of (along (Some s) l r) p ≡ Some (known (kind_of l p))
@@ -94,6 +95,35 @@ module _ (s : Seam) (l r : Model) where
   kinds_past : (p : ℕ) → s.left.picks + s.right.picks ≤ p → kind_of (along (Some s) l r) p ≡ None
   kinds_past p h = get_or_past (map Some (along (Some s) l r).kinds) p None (simp length-map (omega (arith, seam_picks)))
 
+-- what a join answers is known from what is known with a seam and without one
+pub joined_by : {V : Type 0} (held : Option Seam) (l r : Model) (answer : Model → V) (v : V) (P : Type 0) (Q : Seam → Type 0) → MatchOption held P Q → (P → v ≡ answer empty_book) → ((s : Seam) → Q s → v ≡ answer (along (Some s) l r)) → v ≡ answer (along held l r)
+unfolding along
+joined_by (Some s) l r answer v P Q m none some = some s m
+joined_by None l r answer v P Q m none some = none m
+
+pub level_at_part : (s : Seam) (l r : Model) (n v : ℕ) → v ≡ (part_node s l r (part_of s n)).level → v ≡ level_of (along (Some s) l r) n
+level_at_part s l r n v e = e ∙ sym (ap (λ (k : Node). k.level) (part_node_lem s l r n))
+
+-- the places of a renumbered node
+pub renumbered_count : (own before : Sizes) (n : Node) → length (renumbered_node own before n).places ≡ length n.places
+renumbered_count own before n = length-map n.places (renumbered own before n.level)
+
+-- how many places a node has where it comes from
+abbrev pub part_count : Model → Model → Part → ℕ
+part_count l r (Left k) = place_count l k
+part_count l r (Right k) = place_count r k
+part_count l r Root = 2
+part_count l r Outside = 0
+
+part_counts : (s : Seam) (l r : Model) (x : Part) → length (part_node s l r x).places ≡ part_count l r x
+part_counts s l r (Left k) = renumbered_count s.left nothing (node_of l k)
+part_counts s l r (Right k) = renumbered_count s.right s.left (node_of r k)
+part_counts s l r Root = refl
+part_counts s l r Outside = refl
+
+pub count_at_part : (s : Seam) (l r : Model) (n v : ℕ) → v ≡ part_count l r (part_of s n) → v ≡ place_count (along (Some s) l r) n
+count_at_part s l r n v e = e ∙ sym (ap (λ (k : Node). length k.places) (part_node_lem s l r n) ∙ part_counts s l r (part_of s n))
+
 -- the same, of what a join holds
 module _ (held : Option Seam) (l r : Model) where
   pub node_at : (s : Seam) (p : Part) (n : ℕ) → held ≡ Some s → p ≡ part_of s n → node_of (along held l r) n ≡ part_node s l r p
@@ -102,20 +132,6 @@ module _ (held : Option Seam) (l r : Model) where
   pub node_none : (n : ℕ) → held ≡ None → node_of (along held l r) n ≡ no_node
   unfolding along
   node_none n e = ap (λ o. node_of (along o l r) n) e ∙ empty_node n
-
-  pub count_some : (s : Seam) → held ≡ Some s → s.left.nodes + s.right.nodes + 1 ≡ node_count (along held l r)
-  count_some s e = sym (ap (λ o. node_count (along o l r)) e ∙ seam_count s l r)
-
-  pub count_none : held ≡ None → 1 ≡ node_count (along held l r)
-  unfolding along
-  count_none e = sym (ap (λ o. node_count (along o l r)) e)
-
-  pub picks_some : (s : Seam) → held ≡ Some s → s.left.picks + s.right.picks ≡ pick_limit (along held l r)
-  picks_some s e = sym (ap (λ o. pick_limit (along o l r)) e ∙ seam_picks s l r)
-
-  pub picks_none : held ≡ None → 0 ≡ pick_limit (along held l r)
-  unfolding along
-  picks_none e = sym (ap (λ o. pick_limit (along o l r)) e)
 
   pub kind_none : (p : ℕ) → held ≡ None → None ≡ kind_of (along held l r) p
   unfolding along
@@ -132,18 +148,10 @@ module _ (held : Option Seam) (l r : Model) where
   pub kind_past : (s : Seam) (p : ℕ) → held ≡ Some s → s.left.picks ≤ p → s.right.picks ≤ p - s.left.picks → None ≡ kind_of (along held l r) p
   kind_past s p e h i = sym (ap (λ o. kind_of (along o l r) p) e ∙ kinds_past s l r p (omega arith))
 
--- the places of a renumbered node
-pub renumbered_count : (own before : Sizes) (n : Node) → length (renumbered_node own before n).places ≡ length n.places
-renumbered_count own before n = length-map n.places (renumbered own before n.level)
-
 pub renumbered_at : (own before : Sizes) (m : Model) (n i level : ℕ) (was became : Option Entry) → became ≡ renumbered own before level was → level ≡ level_of m n → was ≡ place_of m n i → became ≡ slice_index_or (renumbered_node own before (node_of m n)).places i None
 renumbered_at own before m n i level was became e p q =
     e ∙ ap (λ v. renumbered own before v was) p ∙ ap (renumbered own before (level_of m n)) q
     ∙ sym (ListN.get_or-map (renumbered own before (level_of m n)) (node_of m n).places i None)
-
--- each question at a node of the seam, from the node it comes from
-places_at_lem : (held : Option Seam) (l r : Model) (n : ℕ) (node : Node) → node_of (along held l r) n ≡ node → place_count (along held l r) n ≡ length node.places
-places_at_lem held l r n node e = ap (λ (k : Node). length k.places) e
 
 module _ (s : Seam) (l r : Model) (p : BookShape l) (q : BookShape r) where
   low_part : (x : Part) → (part_node s l r x).level ≤ 7
@@ -153,8 +161,8 @@ module _ (s : Seam) (l r : Model) (p : BookShape l) (q : BookShape r) where
   low_part Outside = omega arith
 
   few_part : (x : Part) → length (part_node s l r x).places ≤ 16
-  few_part (Left k) = omega (arith, renumbered_count s.left nothing (node_of l k), p.places_most k)
-  few_part (Right k) = omega (arith, renumbered_count s.right s.left (node_of r k), q.places_most k)
+  few_part (Left k) = omega (arith, part_counts s l r (Left k), p.places_most k)
+  few_part (Right k) = omega (arith, part_counts s l r (Right k), q.places_most k)
   few_part Root = omega arith
   few_part Outside = omega arith
 
@@ -167,10 +175,9 @@ target_renumbered own before level most h (Some f) e t =
     let same : count_at before level + f.target ≡ e.target = cc in
     omega (arith, ltb-true f.target (count_at own level) y, same))
     (λ (y : ltb f.target (count_at own level) ≡ false).
-    let none : None ≡ Some e = sym (cond-false _ _ _ y) ∙ t in
-    let z : ◌≡◌ {A = ℕ} 0 1 = cc in absurd (omega arith))
+    absurd (none-some e (sym (cond-false _ _ _ y) ∙ t)))
     (cases_Bool (nat_lt f.target (count_at own level)))
-target_renumbered own before level most h None e t = let z : ◌≡◌ {A = ℕ} 0 1 = cc in absurd (omega arith)
+target_renumbered own before level most h None e t = absurd (none-some e t)
 
 count_most : (z : Sizes) (level : ℕ) → z.picks ≤ 2048 → z.nodes ≤ 512 → count_at z level ≤ 2048
 count_most z level p n =
@@ -191,17 +198,15 @@ module _ (s : Seam) (l r : Model) where
       (place_of r k i) e (sym (ListN.get_or-map (renumbered s.right s.left level) (node_of r k).places i None) ∙ t)
   target_part Root zero e t = target_named (s.left.nodes - 1) 65536 s.left_box e (omega (arith, s.nodes)) t
   target_part Root (suc zero) e t = target_named (s.left.nodes + s.right.nodes - 1) 65536 s.right_box e (omega (arith, s.nodes)) t
-  target_part Root (suc (suc i)) e t = let z : ◌≡◌ {A = ℕ} 0 1 = cc in absurd (omega arith)
-  target_part Outside i e t = let z : ◌≡◌ {A = ℕ} 0 1 = cc in absurd (omega arith)
+  target_part Root (suc (suc i)) e t = absurd (none-some e t)
+  target_part Outside i e t = absurd (none-some e t)
 
 pub shape_empty : BookShape empty_book
 shape_empty =
     shape_by empty_book (omega arith) (omega arith) (omega arith)
     (λ n. omega (arith, ap (λ (k : Node). k.level) (empty_node n)))
     (λ n. omega (arith, ap (λ (k : Node). length k.places) (empty_node n)))
-    (λ n i e t.
-    let none : None ≡ Some e = sym (ap (λ (k : Node). get_or k.places i None) (empty_node n)) ∙ t in
-    let z : ◌≡◌ {A = ℕ} 0 1 = cc in absurd (omega arith))
+    (λ n i e t. absurd (none-some e (sym (ap (λ (k : Node). get_or k.places i None) (empty_node n)) ∙ t)))
 
 -- a joined book has a book's shape, by what the join keeps
 pub shape_along : (held : Option Seam) (l r : Model) → BookShape l → BookShape r → BookShape (along held l r)

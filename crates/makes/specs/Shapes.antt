@@ -1,15 +1,12 @@
 -- A book's shape, from what its filled places say.
-use Rattle.std.specs.Prelude.{◌≡◌, ℕ, ◌<◌, ◌≤◌, Some, None, Option, refl}
+use Rattle.std.specs.Prelude.{◌≡◌, ℕ, ◌<◌, ◌≤◌, Some, None, Option}
 use Rattle.std.proofs.Common.{arith}
 use Rattle.book.specs.Model.{Model, BookShape, node_count, pick_limit, level_of, place_count, place_of}
+use Rattle.geometry.proofs.Boxes.{by_option}
 use Rattle.geometry.specs.declared.bounds.Bounds.{Bounds}
+use Rattle.std.proofs.lemmas.Option.{none-some}
 use Rattle.makes.specs.Places.{place_for}
 use Rattle.book.specs.declared.place.Entry.{Entry}
-
--- a place is filled or spoilt
-pub by_place : {P : Type 0} (p : Option Entry) → ((e : Entry) → p ≡ Some e → P) → (p ≡ None → P) → P
-by_place (Some e) filled spoilt = filled e refl
-by_place None filled spoilt = spoilt refl
 
 abbrev pub TargetsFit : Model → Type 0
 TargetsFit m = (n i : ℕ) (e : Entry) → place_of m n i ≡ Some e → e.target < 65536
@@ -25,13 +22,9 @@ shape_by m some nodes picks levels places targets =
       picks_most = picks;
       levels_most = levels;
       places_most = places;
-      targets_fit = λ n i. by_place (place_of m n i) (λ e p. rw p (targets n i e p)) (λ p. rw p tt);
+      targets_fit = λ n i. by_option (place_of m n i) (λ p. rw p tt) (λ e p. rw p (targets n i e p));
     }
-
--- a spoilt place is not filled
-pub never : {P : Type 0} {e : Entry} → None ≡ Some e → P
-never e = let z : ◌≡◌ {A = ℕ} 0 1 = cc in absurd (omega arith)
 
 pub target_named : (target most : ℕ) (b : Option Bounds) (e : Entry) → target < most → place_for target b ≡ Some e → e.target < most
 target_named target most (Some b) e h t = let same : target ≡ e.target = cc in omega (arith, same)
-target_named target most None e h t = let z : ◌≡◌ {A = ℕ} 0 1 = cc in absurd (omega arith)
+target_named target most None e h t = absurd (none-some e t)

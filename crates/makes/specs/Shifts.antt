@@ -4,6 +4,7 @@ use Rattle.std.proofs.Common.{sym, ◌∙◌, ap, arith}
 use Rattle.std.proofs.Math.ListN.{get_or-map}
 use Rattle.std.specs.List.{AllByRecursion}
 use Rattle.std.proofs.lemmas.List.{map-id, length-map}
+use Rattle.std.proofs.lemmas.Option.{none-some}
 use Rattle.book.specs.Model.{Node, Model, BookShape, no_node, node_of, node_count, level_of, place_count, place_of}
 use Rattle.book.specs.declared.place.Entry.{Entry}
 use Rattle.geometry.specs.Moved.{moved_point, moved_bounds}
@@ -41,7 +42,7 @@ target_shift by (Some f) e q = (
   by_option (moved_bounds f.bounds by) (λ r. let z : None ≡ Some e = rw r at q in cc)
       (λ b r. let z : place_for f.target (Some b) ≡ Some e = rw r at q in cc),
 )
-target_shift by None e q = let z : ◌≡◌ {A = ℕ} 0 1 = cc in absurd (omega arith)
+target_shift by None e q = absurd (none-some e q)
 
 pub shape_shift : (by : Point) (m : Model) → BookShape m → BookShape (shifted by m)
 shape_shift by m s =

@@ -1,31 +1,22 @@
 -- A book whose nodes are a tree by sixteens has a book's shape.
-use Rattle.std.specs.Prelude.{◌≡◌, ℕ, ◌+◌, ◌-◌, ◌*◌, ◌<◌, ◌≤◌, ◌&&◌, ◌⊎◌, List, length, Some, None, Option, nat_le, refl}
+use Rattle.std.specs.Prelude.{◌≡◌, ℕ, ◌+◌, ◌-◌, ◌*◌, ◌<◌, ◌≤◌, List, length, Some, None, Option, nat_le, refl}
 use Rattle.std.proofs.Common.{⊎_elim, sym, ◌∙◌, ap, arith}
 use Rattle.std.proofs.lemmas.List.{get_or_past}
-use Rattle.std.proofs.lemmas.Bool.{cases_lt, cond_both, cond-true, cond-false, and_from, and_left, and_right, le-leb, lt-leb}
+use Rattle.std.proofs.lemmas.Bool.{cases_lt, cond_both}
 use Rattle.book.specs.Model.{BookShape}
 use Rattle.book.specs.declared.kind.Kind.{Kind}
 use Rattle.book.specs.declared.place.Entry.{Entry}
 use Rattle.geometry.specs.declared.bounds.Bounds.{Bounds}
 use Rattle.geometry.proofs.Boxes.{by_option}
+use Rattle.std.proofs.lemmas.Option.{none-some}
 use Rattle.makes.specs.Places.{place_for}
 use Rattle.makes.specs.Sixteens.{group_count, by_sixteens, level_at, places_at, place_at, nodes_for}
-use Rattle.makes.specs.Covered.{tree_count, row_of}
+use Rattle.makes.specs.Covered.{row_of}
 use Rattle.makes.specs.declared.sixteens.Row.{Row}
 use Rattle.makes.specs.Covers.{level_some, level_none, count_some, count_none, place_none, place_wide, place_at_lem, facts}
 use Rattle.makes.specs.Rows.{at_level}
-use Rattle.makes.specs.Shapes.{shape_by, target_named, never}
+use Rattle.makes.specs.Shapes.{shape_by, target_named}
 use Rattle.makes.specs.Trees.{tree_by}
-
-pub tree_count_yes : (n : ℕ) → 1 ≤ n → n ≤ 1000 → Some n ≡ tree_count n
-tree_count_yes n h k = sym (cond-true (nat_le 1 n && nat_le n 1000) (Some n) None (and_from (nat_le 1 n) (nat_le n 1000) (le-leb 1 n h) (le-leb n 1000 k)))
-
-pub tree_count_no : (n : ℕ) → ((1 ≤ n) × (1000 < n)) ⊎ (n < 1) → None ≡ tree_count n
-tree_count_no n e =
-    ⊎_elim
-    (λ (h : (1 ≤ n) × (1000 < n)). sym (cond-false (nat_le 1 n && nat_le n 1000) (Some n) None (and_right (nat_le 1 n) (nat_le n 1000) (lt-leb n 1000 h.1))))
-    (λ (h : n < 1). sym (cond-false (nat_le 1 n && nat_le n 1000) (Some n) None (and_left (nat_le 1 n) (nat_le n 1000) (lt-leb 1 n h))))
-    e
 
 pub nodes_within : (n : ℕ) → 0 < n → n ≤ 1000 → (0 < nodes_for n) × (nodes_for n ≤ 68)
 nodes_within n some most =
@@ -55,17 +46,17 @@ module _ (bs : List (Option Bounds)) (some : 0 < length bs) (most : length bs �
       (λ (h : q < r.places). target_named (r.target + q) 65536 _ e (omega (arith, f.near)) (sym here ∙ t))
       (λ (h : r.places ≤ q).
       let none = get_or_past (at_level r.level bs) q None (omega (arith, f.many bs refl)) in
-      never (sym (here ∙ ap (place_for (r.target + q)) none) ∙ t))
+      absurd (none-some e (sym (here ∙ ap (place_for (r.target + q)) none) ∙ t)))
       (cases_lt q r.places)
 
   near_targets : (node i : ℕ) (e : Entry) → place_at (by_sixteens bs) node i ≡ Some e → e.target < 65536
   near_targets node i e t =
       by_option (row_of (length bs) node)
-      (λ p. never (place_none (length bs) node bs refl most i (sym p) ∙ t))
+      (λ p. absurd (none-some e (place_none (length bs) node bs refl most i (sym p) ∙ t)))
       (λ r p.
       ⊎_elim
       (λ (h : i < 16). near_target node i r (sym p) h e t)
-      (λ (h : 16 ≤ i). never (place_wide (length bs) node bs refl most r (sym p) some i h ∙ t))
+      (λ (h : 16 ≤ i). absurd (none-some e (place_wide (length bs) node bs refl most r (sym p) some i h ∙ t)))
       (cases_lt i 16))
 
   pub shape_sixteens : (ks : List Kind) → length ks ≤ 2048 → BookShape (record { nodes = by_sixteens bs; kinds = ks })

@@ -10,4 +10,4 @@ use Rattle.makes.specs.declared.tally.Tally.{Tally}
 unfoldable pub tally_of : Point → ℕ → ℕ → Result Tally Told
 tally_of top joints long =
     tested 24 (sized joints long)
-    (λ s. tested 5 (hangs top joints long) (λ h. Ok (record { top = top; joints = joints; length = long; sizes = s; hung = h })))
+    (λ s. tested 5 (hangs top joints long) (λ h. Ok (record { top = top; joints = record { count = joints; length = long; sizes = s }; hung = h })))

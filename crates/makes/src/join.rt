@@ -4,12 +4,12 @@ ghost use Rattle.std.specs.Prelude.{◌≡◌};
 ghost use Rattle.book.specs.Model.{Model};
 ghost use Rattle.refusal.specs.Told.{answered, join_told};
 ghost use Rattle.makes.specs.Join.{sizes_of, root_boxes, root_box, joinable, joined};
-ghost use Rattle.makes.specs.Seam.{along, known as knownKind};
+ghost use Rattle.makes.specs.Seam.{along};
 ghost use Rattle.makes.specs.Smallest.{IsSmallest};
 ghost use Rattle.makes.specs.Seams.{shape_along};
 
 use crate::seam::{Part, Seam, Sizes};
-use crate::smallest::{around_both, box_of};
+use crate::smallest::around_both;
 use book::book::Book;
 use book::kind::Kind;
 use book::place::Entry;
@@ -63,10 +63,11 @@ fn root_box<B: Book>(book: &B, sizes: &Sizes) -> Option<Bounds>
 {
     let root = sizes.nodes - 1;
     let level = book.level(root);
+    // A closure for `fold` would have to state again what `renumbered` asks.
     let mut bounds = None;
     for index in 0..book.place_count(root) {
         let place = sizes.renumbered(&Sizes::NOTHING, level, book.place(root, index));
-        bounds = around_both(bounds, box_of(place));
+        bounds = around_both(bounds, place.map(|entry| entry.bounds));
     }
     bounds
 }
@@ -75,9 +76,7 @@ fn root_box<B: Book>(book: &B, sizes: &Sizes) -> Option<Bounds>
 fn measured<L: Book, R: Book>(left: &L, right: &R) -> Option<Seam>
     ensures { along result (L.Book.model left.now) (R.Book.model right.now) ≡ joined (L.Book.model left.now) (R.Book.model right.now) }
 {
-    if fits(left, right).is_err() {
-        return None;
-    }
+    fits(left, right).ok()?;
     let first = sizes(left);
     let second = sizes(right);
     Some(Seam {
@@ -113,16 +112,6 @@ impl<L: Book, R: Book> Join<L, R> {
     }
 }
 
-// Every pick below a book's limit has a kind, so the other is never wanted.
-fn known(kind: Option<Kind>) -> Kind
-    ensures { result ≡ knownKind kind }
-{
-    match kind {
-        Some(kind) => kind,
-        None => Kind::Marker,
-    }
-}
-
 impl<L: Book, R: Book> Book for Join<L, R> {
     ghost model = { λ s. along s.seam (L.Book.model s.left) (R.Book.model s.right) };
 
@@ -131,47 +120,37 @@ impl<L: Book, R: Book> Book for Join<L, R> {
         (L.Book.shape b.left) (R.Book.shape b.right) };
 
     fn node_count(&self) -> u16 {
-        match self.seam {
-            Some(seam) => seam.left.nodes + seam.right.nodes + 1,
-            None => 1,
-        }
+        self.seam
+            .map_or(1, |seam| seam.left.nodes + seam.right.nodes + 1)
     }
 
     fn pick_limit(&self) -> u16 {
-        match self.seam {
-            Some(seam) => seam.left.picks + seam.right.picks,
-            None => 0,
-        }
+        self.seam
+            .map_or(0, |seam| seam.left.picks + seam.right.picks)
     }
 
+    // This and `place_count` ask two books of two types: one function for both would take a closure for each book and
+    // each question, and say less than these lines.
     fn level(&self, node: u16) -> u8 {
-        let Some(seam) = self.seam else {
-            return 0;
-        };
-        match seam.part(node) {
+        self.seam.map_or(0, |seam| match seam.part(node) {
             Part::Left(k) => self.left.level(k),
             Part::Right(k) => self.right.level(k),
             Part::Root => seam.level,
             Part::Outside => 0,
-        }
+        })
     }
 
     fn place_count(&self, node: u16) -> u8 {
-        let Some(seam) = self.seam else {
-            return 0;
-        };
-        match seam.part(node) {
+        self.seam.map_or(0, |seam| match seam.part(node) {
             Part::Left(k) => self.left.place_count(k),
             Part::Right(k) => self.right.place_count(k),
             Part::Root => 2,
             Part::Outside => 0,
-        }
+        })
     }
 
     fn place(&self, node: u16, index: u8) -> Option<Entry> {
-        let Some(seam) = self.seam else {
-            return None;
-        };
+        let seam = self.seam?;
         match seam.part(node) {
             Part::Left(k) => seam.left.renumbered(
                 &Sizes::NOTHING,
@@ -190,14 +169,12 @@ impl<L: Book, R: Book> Book for Join<L, R> {
 
     fn kind(&self, pick: u16) -> Option<Kind> {
         let seam = self.seam?;
-        if pick < seam.left.picks {
-            return Some(known(self.left.kind(pick)));
-        }
-        let rest = pick - seam.left.picks;
-        if rest < seam.right.picks {
-            Some(known(self.right.kind(rest)))
-        } else {
-            None
-        }
+        let kind = match pick.checked_sub(seam.left.picks) {
+            None => self.left.kind(pick),
+            Some(rest) if rest < seam.right.picks => self.right.kind(rest),
+            Some(_) => return None,
+        };
+        // Every pick below a book's limit has a kind, so the marker is never wanted.
+        Some(kind.unwrap_or(Kind::Marker))
     }
 }

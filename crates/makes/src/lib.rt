@@ -4,7 +4,6 @@
 
 pub mod join;
 pub mod offset;
-mod places;
 mod seam;
 pub mod shift;
 pub mod sixteens;

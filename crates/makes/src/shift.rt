@@ -1,7 +1,7 @@
 //! A book with every box moved.
 
 ghost use Rattle.std.specs.Prelude.{◌≡◌};
-ghost use Rattle.makes.specs.Shift.{shifted, shifted_place};
+ghost use Rattle.makes.specs.Shift.{shifted};
 ghost use Rattle.makes.specs.Shifts.{shape_shift};
 
 use crate::offset::Offset;
@@ -14,21 +14,6 @@ use book::place::Entry;
 pub struct Shift<B> {
     book: B,
     offset: Offset,
-}
-
-fn moved_place(place: Option<Entry>, offset: &Offset) -> Option<Entry>
-    ensures { result ≡ shifted_place offset.now.by place }
-{
-    let Some(entry) = place else {
-        return None;
-    };
-    match entry.bounds.moved(offset.by) {
-        Some(bounds) => Some(Entry {
-            bounds,
-            target: entry.target,
-        }),
-        None => None,
-    }
 }
 
 impl<B> Shift<B> {
@@ -70,7 +55,9 @@ impl<B: Book> Book for Shift<B> {
     }
 
     fn place(&self, node: u16, index: u8) -> Option<Entry> {
-        moved_place(self.book.place(node, index), &self.offset)
+        let entry = self.book.place(node, index)?;
+        let bounds = entry.bounds.moved(self.offset.by)?;
+        Some(Entry { bounds, ..entry })
     }
 
     fn kind(&self, pick: u16) -> Option<Kind> {

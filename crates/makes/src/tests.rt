@@ -12,10 +12,7 @@ use refusal::hands::TypingFault;
 use std::test::Fail;
 
 fn entry<B: Book>(book: &B, node: u16, index: u8) -> Result<Entry, Fail> {
-    match book.place(node, index) {
-        Some(entry) => Ok(entry),
-        None => Err(Fail::new("spoilt")),
-    }
+    book.place(node, index).ok_or_else(|| Fail::new("spoilt"))
 }
 
 #[test]

@@ -45,6 +45,7 @@ impl Offset {
         ensures value { answered typing_told result ≡ offset_of (moved_point self.now.by next.now.by) }
         ensures once { AtOnce self.now.by next.now.by result }
     {
+        // The only sum of two points in any crate: `Add` for `Point` would be no plainer.
         Offset::new(Point {
             easting: self.by.easting + next.by.easting,
             northing: self.by.northing + next.by.northing,

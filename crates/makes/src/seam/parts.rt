@@ -4,9 +4,9 @@ ghost use Rattle.std.specs.Prelude.{◌≡◌, ◌+◌, ◌≤◌};
 ghost use Rattle.makes.specs.Join.{count_at, renumbered as renumberedPlace};
 ghost use Rattle.makes.specs.Seam.{part_of, root_place};
 
-use crate::places::place_for;
 use crate::seam::{Part, Seam, Sizes};
 use book::place::Entry;
+use std::cmp::Ordering;
 
 impl Sizes {
     /// The sizes of no book at all.
@@ -29,17 +29,11 @@ impl Sizes {
         requires { count_at before.now level + count_at self.now level ≤ 65536 }
         ensures { result ≡ renumberedPlace self.now before.now level place }
     {
-        let Some(entry) = place else {
-            return None;
-        };
-        if entry.target < self.at(level) {
-            Some(Entry {
-                bounds: entry.bounds,
-                target: before.at(level) + entry.target,
-            })
-        } else {
-            None
-        }
+        let entry = place?;
+        (entry.target < self.at(level)).then(|| Entry {
+            target: before.at(level) + entry.target,
+            ..entry
+        })
     }
 }
 
@@ -48,16 +42,13 @@ impl Seam {
     pub(crate) fn part(&self, node: u16) -> Part
         ensures { result ≡ part_of self.now node }
     {
-        if node < self.left.nodes {
+        let Some(rest) = node.checked_sub(self.left.nodes) else {
             return Part::Left(node);
-        }
-        let rest = node - self.left.nodes;
-        if rest < self.right.nodes {
-            Part::Right(rest)
-        } else if rest == self.right.nodes {
-            Part::Root
-        } else {
-            Part::Outside
+        };
+        match rest.cmp(&self.right.nodes) {
+            Ordering::Less => Part::Right(rest),
+            Ordering::Equal => Part::Root,
+            Ordering::Greater => Part::Outside,
         }
     }
 
@@ -65,10 +56,11 @@ impl Seam {
     pub(crate) fn root_place(&self, index: u8) -> Option<Entry>
         ensures { result ≡ root_place self.now index }
     {
-        match index {
-            0 => place_for(self.left.nodes - 1, self.left_box),
-            1 => place_for(self.left.nodes + self.right.nodes - 1, self.right_box),
-            _ => None,
-        }
+        let (target, bounds) = match index {
+            0 => (self.left.nodes - 1, self.left_box?),
+            1 => (self.left.nodes + self.right.nodes - 1, self.right_box?),
+            _ => return None,
+        };
+        Some(Entry { bounds, target })
     }
 }

@@ -14,7 +14,8 @@ impl Sixteens {
         ensures value { count_of result ≡ tree_count count }
         ensures tree { (boxes : List (Maybe BoxOf)) → 0 < length boxes → length boxes ≤ 1000 → TreeBySixteens boxes }
     {
-        if 1 <= count && count <= 1000 {
+        // A closure for `then` would have to state the two bounds again.
+        if (1..=1000).contains(&count) {
             Some(Sixteens { count })
         } else {
             None
@@ -26,13 +27,10 @@ impl Sixteens {
         ensures { result ≡ nodes_for self.now.count }
     {
         let leaves = group_count(self.count);
-        if self.count <= 16 {
-            return 1;
-        }
-        if self.count <= 256 {
-            leaves + 1
-        } else {
-            leaves + group_count(leaves) + 1
+        match self.count {
+            ..=16 => 1,
+            17..=256 => leaves + 1,
+            _ => leaves + group_count(leaves) + 1,
         }
     }
 
@@ -40,20 +38,16 @@ impl Sixteens {
     pub fn level(&self, node: u16) -> u8
         ensures { (boxes : List (Maybe BoxOf)) → length boxes ≡ self.now.count → result ≡ level_at (by_sixteens boxes) node }
     {
-        match self.row_of(node) {
-            Some(row) => row.level,
-            None => 0,
-        }
+        self.row_of(node).map_or(0, |row| row.level)
     }
 
     /// How many places a node has.
     pub fn place_count(&self, node: u16) -> u8
         ensures { (boxes : List (Maybe BoxOf)) → length boxes ≡ self.now.count → result ≡ length (places_at (by_sixteens boxes) node) }
     {
-        match self.row_of(node) {
-            Some(row) => (row.places - 16 * (node - row.first)).min(16) as u8,
-            None => 0,
-        }
+        self.row_of(node).map_or(0, |row| {
+            (row.places - 16 * (node - row.first)).min(16) as u8
+        })
     }
 
     /// What a place names, and which picks lie below it.

@@ -1,17 +1,43 @@
 //! The rows of the tree.
 
-ghost use Rattle.std.specs.Prelude.{◌≡◌, ◌≤◌};
-ghost use Rattle.makes.specs.Covered.{row_of};
+ghost use Rattle.std.specs.Prelude.{◌≡◌, ◌+◌, ◌<◌, ◌≤◌, nat_lt};
+ghost use Rattle.makes.specs.Covered.{row_of, row_above};
 ghost use Rattle.makes.specs.Sixteens.{group_count};
 
 use crate::sixteens::{Row, Sixteens};
 
 /// How many groups of sixteen so many make.
 pub(crate) fn group_count(count: u16) -> u16
-    requires { count ≤ 1000 }
     ensures { result ≡ group_count count }
 {
-    (count + 15) / 16
+    count.div_ceil(16)
+}
+
+impl Row {
+    // Whether a node that is in no row below this one is in this row.
+    fn reaches(&self, node: u16) -> bool
+        requires { self.now.first + self.now.places < 65536 }
+        ensures { result ≡ nat_lt node (self.now.first + group_count self.now.places) }
+    {
+        node < self.first + group_count(self.places)
+    }
+
+    // The row above, which names this row's nodes, unless this row is one node.
+    fn above(&self) -> Option<Row>
+        requires low { self.now.level < 2 }
+        requires near { self.now.first + self.now.places < 65536 }
+        requires narrow { self.now.below ≤ 16 }
+        ensures { result ≡ row_above self.now }
+    {
+        let nodes = group_count(self.places);
+        (self.places > 16).then(|| Row {
+            level: self.level + 1,
+            first: self.first + nodes,
+            target: self.first,
+            places: nodes,
+            below: 16 * self.below,
+        })
+    }
 }
 
 impl Sixteens {
@@ -19,38 +45,21 @@ impl Sixteens {
     pub(crate) fn row_of(&self, node: u16) -> Option<Row>
         ensures { result ≡ row_of self.now.count node }
     {
-        let leaves = group_count(self.count);
-        if node < leaves {
-            return Some(Row {
-                level: 0,
-                first: 0,
-                target: 0,
-                places: self.count,
-                below: 1,
-            });
+        let leaves = Row {
+            level: 0,
+            first: 0,
+            target: 0,
+            places: self.count,
+            below: 1,
+        };
+        if leaves.reaches(node) {
+            return Some(leaves);
         }
-        if self.count <= 16 {
-            return None;
+        let middle = leaves.above()?;
+        if middle.reaches(node) {
+            return Some(middle);
         }
-        let middle = group_count(leaves);
-        if node < leaves + middle {
-            return Some(Row {
-                level: 1,
-                first: leaves,
-                target: 0,
-                places: leaves,
-                below: 16,
-            });
-        }
-        if leaves <= 16 || node != leaves + middle {
-            return None;
-        }
-        Some(Row {
-            level: 2,
-            first: leaves + middle,
-            target: leaves,
-            places: middle,
-            below: 256,
-        })
+        let top = middle.above()?;
+        top.reaches(node).then_some(top)
     }
 }

@@ -5,10 +5,8 @@ ghost use Rattle.makes.specs.Smallest.{smallest};
 ghost use Rattle.makes.specs.Tally.{collar_boxes, tallied};
 ghost use Rattle.makes.specs.TalliesLemmas.{shape_tally};
 
-use crate::places::place_for;
-use crate::sixteens::Sixteens;
+use crate::sixteens::{Covered, Sixteens};
 use crate::tally::Tally;
-use crate::tally::make::collar;
 use book::book::Book;
 use book::kind::Kind;
 use book::place::Entry;
@@ -16,25 +14,27 @@ use geometry::bounds::Bounds;
 
 impl Tally {
     fn tree(&self) -> Sixteens
-        ensures { result.count ≡ self.now.joints }
+        ensures { result.count ≡ self.now.joints.count }
     {
-        Sixteens { count: self.joints }
+        Sixteens {
+            count: self.joints.count,
+        }
     }
 
     // The box around the collars from `start` to before `end`: it reaches from the lowest to the highest.
     fn run(&self, start: u16, end: u16) -> Option<Bounds>
         requires some { start < end }
-        requires inside { end ≤ self.now.joints }
-        ensures { result ≡ smallest (take (end - start) (drop start (collar_boxes self.now.top self.now.joints self.now.length))) }
+        requires inside { end ≤ self.now.joints.count }
+        ensures { result ≡ smallest (take (end - start) (drop start (collar_boxes self.now.top self.now.joints.count self.now.joints.length))) }
     {
-        let highest = collar(&self.top, self.length, start);
-        let lowest = collar(&self.top, self.length, end - 1);
+        let highest = self.joints.collar(&self.top, start);
+        let lowest = self.joints.collar(&self.top, end - 1);
         Bounds::between(lowest, highest)
     }
 }
 
 impl Book for Tally {
-    ghost model = { λ t. tallied t.top t.joints t.length };
+    ghost model = { λ t. tallied t.top t.joints.count t.joints.length };
 
     ghost shape = { λ b. shape_tally b };
 
@@ -43,7 +43,7 @@ impl Book for Tally {
     }
 
     fn pick_limit(&self) -> u16 {
-        self.joints
+        self.joints.count
     }
 
     fn level(&self, node: u16) -> u8 {
@@ -55,17 +55,12 @@ impl Book for Tally {
     }
 
     fn place(&self, node: u16, index: u8) -> Option<Entry> {
-        match self.tree().covered(node, index) {
-            Some(below) => place_for(below.target, self.run(below.start, below.end)),
-            None => None,
-        }
+        let Covered { target, start, end } = self.tree().covered(node, index)?;
+        let bounds = self.run(start, end)?;
+        Some(Entry { bounds, target })
     }
 
     fn kind(&self, pick: u16) -> Option<Kind> {
-        if pick < self.joints {
-            Some(Kind::Collar)
-        } else {
-            None
-        }
+        (pick < self.joints.count).then_some(Kind::Collar)
     }
 }

@@ -1,15 +1,13 @@
-use Rattle.std.proofs.Common.{refl}
+use Rattle.std.proofs.Common.{ap, ◌∙◌}
+use Rattle.std.specs.Result.{result_unwrap_or}
 use Rattle.accepted_makes.proofs.Sixteens.{sixteens_accepted}
-use Rattle.accepted_makes.proofs.Tallies.{tallies_accepted, answer_ok, answer_err}
+use Rattle.accepted_makes.proofs.Tallies.{tallies_accepted, tally_answer}
 use Rattle.accepted_makes.proofs.tally.check_tally.Goals as goal
 
-pub returns-in-Ok : goal.returns-in-Ok
-returns-in-Ok c =
+pub returns : goal.returns
+returns c =
     record {
-      answer = answer_ok c.args.tally.now _ c.in-Ok.ensures.accepts c.in-Ok.picks refl;
+      answer = c.unwrap_or.ensures ∙ ap (λ r. result_unwrap_or r 0) (tally_answer c.args.tally.now c.check.result c.check.ensures.accepts);
       trees = sixteens_accepted;
       tallies = tallies_accepted;
     }
-
-pub returns-in-Err : goal.returns-in-Err
-returns-in-Err c = answer_err c.args.tally.now _ c.in-Err.ensures.accepts _ refl

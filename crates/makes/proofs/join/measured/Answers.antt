@@ -1,15 +1,16 @@
-use Rattle.std.proofs.Common.{◌+◌, ◌-◌, sym, ap, ◌∙◌, arith}
+use Rattle.std.proofs.Common.{◌+◌, ◌-◌, ap, ◌∙◌, arith}
 use Rattle.book.specs.Model.{node_count}
 use Rattle.makes.specs.Seam.{along}
 use Rattle.makes.proofs.Fits.{fits_yes, joined_yes, joined_no, seam_level, seam_nodes, seam_picks, seam_some, root_level}
 use Rattle.makes.proofs.Joins.{along_both}
 use Rattle.makes.proofs.join.measured.Goals as goal
 
-pub returns-then-is_err : goal.returns-then-is_err
+pub returns-in_err-ok : goal.returns-in_err-ok
 unfolding along
-returns-then-is_err g c =
-    joined_no (g.L.Book.model c.args.left.now) (g.R.Book.model c.args.right.now) c.fits.result
-    c.fits.ensures (sym c.if-is_err.ensures.value)
+returns-in_err-ok g c =
+    let l = g.L.Book.model c.args.left.now in
+    let r = g.R.Book.model c.args.right.now in
+    ap (λ s. along s l r) c.from_residual.ensures ∙ joined_no l r c.fits.result c.fits.ensures c.in_err-ok.ensures.value
 
 pub overflow_add-result : goal.overflow_add-result
 overflow_add-result g c =
@@ -20,7 +21,7 @@ pub invariant_of-result : goal.invariant_of-result
 invariant_of-result g c =
     let l = g.L.Book.model c.args.left.now in
     let r = g.R.Book.model c.args.right.now in
-    let fit = fits_yes l r c.fits.result c.fits.ensures (sym c.if-is_err.ensures.value) in
+    let fit = fits_yes l r c.fits.result c.fits.ensures c.in_ok-ok.field-0 c.in_ok-ok.ensures.value in
     let shape = g.met.L.Book.shape c.args.left.now in
     let first = c.sizes-first.ensures in
     let second = c.sizes-second.ensures in
@@ -38,4 +39,4 @@ returns g c =
     let first = c.sizes-first.ensures in
     along_both l r _ first c.sizes-second.ensures (ap (λ n. n + 1) (root_level l _ _ first c.level.ensures))
     c.root_box.ensures c.root_box-2.ensures
-    ∙ joined_yes l r c.fits.result c.fits.ensures (sym c.if-is_err.ensures.value)
+    ∙ joined_yes l r c.fits.result c.fits.ensures c.in_ok-ok.field-0 c.in_ok-ok.ensures.value

@@ -1,4 +1,4 @@
-use Rattle.std.proofs.Common.{◌+◌, ◌<◌, length, drop, ap, ◌∙◌, arith}
+use Rattle.std.proofs.Common.{◌+◌, ◌<◌, length, drop, ap, ◌∙◌, arith, rules}
 use Rattle.makes.specs.Smallest.{around_both, smallest}
 use Rattle.makes.specs.Join.{root_boxes}
 use Rattle.makes.proofs.Joins.{root_boxes_count, root_box_at, box_more, box_all}
@@ -10,11 +10,11 @@ loop-index-preserved g c =
     let i = c.loop-index.index in
     let lt : i < length (root_boxes m) = omega (arith, root_boxes_count m c.args.sizes.now c.requires) in
     let one =
-    root_box_at m c.args.sizes.now c.requires _ i _ _ c.box_of.result c.level-level.ensures c.place.ensures
-    c.renumbered-place.ensures c.box_of.ensures
+    root_box_at m c.args.sizes.now c.requires _ i _ _ c.map.result c.level-level.ensures c.place.ensures
+    c.renumbered-place.ensures (search rules)
     in
     ap (λ b. around_both b (smallest (drop (i + 1) (root_boxes m)))) c.around_both-bounds.ensures
-    ∙ box_more c.loop-index.bounds c.box_of.result _ (root_boxes m) i lt one c.loop-index.invariant
+    ∙ box_more c.loop-index.bounds c.map.result _ (root_boxes m) i lt one c.loop-index.invariant
 
 pub returns : goal.returns
 returns g c =

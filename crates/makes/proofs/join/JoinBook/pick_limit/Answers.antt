@@ -1,10 +1,10 @@
-use Rattle.makes.specs.Seams.{picks_some, picks_none}
+use Rattle.book.specs.Model.{pick_limit}
+use Rattle.std.proofs.Common.{rules, sym, ◌∙◌}
+use Rattle.makes.specs.Seams.{joined_by, seam_picks}
 use Rattle.makes.proofs.join.JoinBook.pick_limit.Goals as goal
 
-pub returns-in-Some : goal.returns-in-Some
-returns-in-Some g c =
-    picks_some c.args.self.now.seam (g.L.Book.model c.args.self.now.left) (g.R.Book.model c.args.self.now.right) _ c.in-Some.is
-
-pub returns-in-None : goal.returns-in-None
-returns-in-None g c =
-    picks_none c.args.self.now.seam (g.L.Book.model c.args.self.now.left) (g.R.Book.model c.args.self.now.right) c.in-None.is
+pub returns : goal.returns
+returns g c =
+    let l = g.L.Book.model c.args.self.now.left in
+    let r = g.R.Book.model c.args.self.now.right in
+    joined_by c.args.self.now.seam l r pick_limit _ _ _ c.map_or.ensures (λ p. p) (λ s q. search rules ∙ sym (seam_picks s l r))

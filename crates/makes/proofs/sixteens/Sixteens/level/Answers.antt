@@ -1,10 +1,6 @@
-use Rattle.makes.specs.Covers.{level_some, level_none}
+use Rattle.std.proofs.Common.{rules}
+use Rattle.makes.specs.Covers.{level_by}
 use Rattle.makes.proofs.sixteens.Sixteens.level.Goals as goal
 
-pub returns-in-Some : goal.returns-in-Some
-returns-in-Some c =
-    λ bs e. level_some c.args.self.now.count c.args.node bs e c.args.self.now.few c.in-Some.row c.in-Some.ensures
-
-pub returns-in-None : goal.returns-in-None
-returns-in-None c =
-    λ bs e. level_none c.args.self.now.count c.args.node bs e c.args.self.now.few c.in-None.ensures
+pub returns : goal.returns
+returns c = λ bs e. level_by c.args.self.now.count c.args.node bs e c.args.self.now.few _ _ c.row_of.ensures (search rules)

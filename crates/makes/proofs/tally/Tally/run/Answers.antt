@@ -9,5 +9,5 @@ returns c =
     let t = c.args.self.now in
     c.between.ensures
     ∙ ap (λ p. bounds_at p c.collar-highest.result) c.collar-lowest.ensures
-    ∙ ap (bounds_at (collar_at t.top t.length (c.args.end - 1))) c.collar-highest.ensures
+    ∙ ap (bounds_at (collar_at t.top t.joints.length (c.args.end - 1))) c.collar-highest.ensures
     ∙ run_is t c.args.start c.args.end c.requires.some c.requires.inside

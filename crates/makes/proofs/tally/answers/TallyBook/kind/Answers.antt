@@ -1,8 +1,6 @@
-use Rattle.makes.specs.TalliesLemmas.{kind_tally, kind_past}
+use Rattle.makes.specs.TalliesLemmas.{kind_tally}
+use Rattle.std.proofs.Common.{◌∙◌}
 use Rattle.makes.proofs.tally.answers.TallyBook.kind.Goals as goal
 
-pub returns-then-pick-self : goal.returns-then-pick-self
-returns-then-pick-self c = kind_tally c.args.self.now c.args.pick c.if-pick-self.true
-
-pub returns-else-pick-self : goal.returns-else-pick-self
-returns-else-pick-self c = kind_past c.args.self.now c.args.pick c.if-pick-self.false
+pub returns : goal.returns
+returns c = c.then_some.ensures ∙ kind_tally c.args.self.now c.args.pick
