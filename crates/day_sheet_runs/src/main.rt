@@ -4,23 +4,26 @@
 
 ghost use Rattle.std.specs.Prelude.{◌≤◌};
 
-mod dice;
+mod drawn;
 mod plain;
 
-use crate::dice::Dice;
-use crate::plain::{BLANK, Expected, Way};
+use crate::plain::{BLANK, Expected};
+use anyhow::anyhow;
+use chance::chance::Chance;
 use day_sheet::record::Record;
 use day_sheet::row::Row;
 use day_sheet::shortlist::shortlist;
 use geometry::bounds::{Bounds, Point};
-use geometry::chessboard::Chessboard;
-use geometry::euclidean::Euclidean;
-use geometry::manhattan::Manhattan;
+use geometry::choice::Choice;
 use refusal::hands::SliceFault;
 use refusal::refusal::Refusal;
+use std::alloc::Global;
 use std::io;
 
-const RUNS: u32 = 900;
+const RUNS: usize = 900;
+
+// By turns.
+const CHOICES: [Choice; 3] = [Choice::Euclidean, Choice::Manhattan, Choice::Chessboard];
 
 const ORIGIN: Point = Point {
     easting: 0,
@@ -28,51 +31,45 @@ const ORIGIN: Point = Point {
     level: 0,
 };
 
-// A shortlist by one of the three measures.
-fn list(
-    sheet: &mut [Record],
-    query: &Bounds,
-    way: Way,
-    k: usize,
-    answer: &mut [Row],
-) -> Result<usize, SliceFault> {
-    match way {
-        Way::Euclidean => shortlist(sheet, query, &Euclidean, k, answer),
-        Way::Manhattan => shortlist(sheet, query, &Manhattan, k, answer),
-        Way::Chessboard => shortlist(sheet, query, &Chessboard, k, answer),
-    }
-}
-
 // Whether the shortlist of this sheet is the one that the plain sort gives; `before` is the sheet too.
-fn agrees(dice: &mut Dice, way: Way, before: &[Record], sheet: &mut [Record]) -> bool {
-    let k = dice.roll(32) as usize + 1;
-    let low = dice.point();
-    let high = dice.beyond(low);
-    let Ok(query) = Bounds::new(low, high) else {
-        return false;
-    };
+fn agrees(
+    heap: Global,
+    chance: &mut Chance,
+    choice: Choice,
+    before: &[Record],
+    sheet: &mut [Record],
+) -> anyhow::Result<bool> {
+    let k = chance.place(32) + 1;
+    let low = drawn::point(chance);
+    let high = drawn::point_beyond(chance, low);
+    let query = Bounds::new(low, high).map_err(|_| anyhow!("a drawn query is refused"))?;
     let mut answer = [BLANK; 32];
-    let told = list(sheet, &query, way, k, &mut answer);
-    let expected = Expected::new(before, low, high, way, k);
-    expected.is_told(told) && expected.has_rows(&answer) && expected.has_marks(before, sheet)
+    let told = shortlist(sheet, &query, &choice, k, &mut answer);
+    let expected = Expected::new(heap, before, &query, choice, k)?;
+    Ok(
+        told == Ok(expected.count())
+            && expected.has_rows(&answer)
+            && expected.has_marks(before, sheet),
+    )
 }
 
-fn agrees_on_another(dice: &mut Dice, way: Way) -> bool {
+fn agrees_on_another(heap: Global, chance: &mut Chance, choice: Choice) -> anyhow::Result<bool> {
     let mut sheet = [Record {
         kind: 0,
         point: ORIGIN,
         marked: false,
     }; 256];
-    dice.fill(&mut sheet);
+    drawn::fill(chance, &mut sheet);
     let before = sheet;
-    let size = dice.roll(257) as usize;
-    agrees(dice, way, &before[0..size], &mut sheet[0..size])
+    let size = chance.place(257);
+    agrees(heap, chance, choice, &before[0..size], &mut sheet[0..size])
 }
 
 fn say(rt: &impl Print, what: &str, told: Result<usize, SliceFault>) -> io::Result<()> {
     match told {
         Ok(count) => println!(rt; "{what}: {count} rows"),
         Err(fault) => {
+            // Not by the refusal's own Display, which calls a place an entry, as the console does.
             let refusal = Refusal::from(fault);
             let number = refusal.number();
             match refusal.place() {
@@ -97,10 +94,10 @@ fn attempt(k: usize, records: usize, rows: usize, level: i32) -> Result<usize, S
     }; 257];
     sheet[2].point.level = level;
     let mut answer = [BLANK; 33];
-    list(
+    shortlist(
         &mut sheet[0..records],
         &query,
-        Way::Manhattan,
+        &Choice::Manhattan,
         k,
         &mut answer[0..rows],
     )
@@ -119,19 +116,15 @@ fn limits(rt: &impl Print) -> io::Result<()> {
     say(rt, "that, and no row wanted", attempt(0, 3, 33, 10_000_001))
 }
 
-fn main(rt: HostRuntime) -> io::Result<()> {
-    let mut dice = Dice::new();
+fn main(rt: HostRuntime) -> anyhow::Result<()> {
+    let mut chance = Chance::new(2025);
     let mut same = 0u32;
-    for run in 0..RUNS {
-        let way = match run % 3 {
-            0 => Way::Euclidean,
-            1 => Way::Manhattan,
-            _ => Way::Chessboard,
-        };
-        if agrees_on_another(&mut dice, way) {
+    for choice in CHOICES.iter().cycle().take(RUNS) {
+        if agrees_on_another(rt.alloc(), &mut chance, *choice)? {
             same = same.saturating_add(1);
         }
     }
     println!(rt; "{same} of {RUNS} shortlists are as a plain sort has them")?;
-    limits(&rt)
+    limits(&rt)?;
+    Ok(())
 }

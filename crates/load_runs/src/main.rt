@@ -3,13 +3,14 @@
 
 #![tactic(auto)]
 
+ghost use Rattle.std.specs.Prelude.{◌≡◌, ◌<◌, length};
+
 mod plain;
 
-use crate::plain::{expected, same_book};
+use crate::plain::decoded;
 use anyhow::anyhow;
 use loaded::loaded::Loaded;
-use refusal::refusal::Refusal;
-use std::fs;
+use std::{fs, mem};
 
 /// How many files were refused and how many loaded.
 #[derive(Drop)]
@@ -20,21 +21,18 @@ struct Tried {
 
 impl Tried {
     fn add(&mut self, book: &mut Loaded, bytes: &[u8]) -> anyhow::Result<()> {
-        match book.load(bytes) {
-            Ok(()) => {
+        match (book.load(bytes), decoded(bytes)) {
+            (Ok(()), Ok(records)) if records.are_of(book) => {
                 self.loaded = self.loaded.saturating_add(1);
-                if expected(bytes) != 0 || !same_book(book, bytes) {
-                    return Err(anyhow!("a file that loads is read otherwise"));
-                }
+                Ok(())
             }
-            Err(fault) => {
+            (Ok(()), _) => Err(anyhow!("a file that loads is read otherwise")),
+            (Err(fault), Err(expected)) if fault == expected => {
                 self.refused = self.refused.saturating_add(1);
-                if expected(bytes) != Refusal::from(fault).number() {
-                    return Err(anyhow!("a file is refused by another number"));
-                }
+                Ok(())
             }
+            (Err(_), _) => Err(anyhow!("a file is refused by another number")),
         }
-        Ok(())
     }
 
     fn truncations(&mut self, book: &mut Loaded, bytes: &[u8]) -> anyhow::Result<()> {
@@ -44,18 +42,23 @@ impl Tried {
         Ok(())
     }
 
+    // The byte at this place changed, each way, and then as it was.
+    fn changes_at(&mut self, book: &mut Loaded, bytes: &mut [u8], at: usize) -> anyhow::Result<()>
+        requires { at < length bytes.old }
+        ensures { length bytes.new ≡ length bytes.old }
+    {
+        let was = bytes[at];
+        for new in [0, 255, was.wrapping_add(1)] {
+            bytes[at] = new;
+            self.add(book, bytes)?;
+        }
+        bytes[at] = was;
+        Ok(())
+    }
+
     fn changes(&mut self, book: &mut Loaded, bytes: &mut [u8]) -> anyhow::Result<()> {
         for at in 0..bytes.len() {
-            let was = bytes[at];
-            for new in [0, 255, was.wrapping_add(1)] {
-                if at < bytes.len() {
-                    bytes[at] = new;
-                }
-                self.add(book, bytes)?;
-            }
-            if at < bytes.len() {
-                bytes[at] = was;
-            }
+            self.changes_at(book, bytes, at)?;
         }
         Ok(())
     }

@@ -1,205 +1,143 @@
 //! A plain decoder, written from the file form and from nothing else.
 
+ghost use Rattle.std.specs.Prelude.{◌<◌, ◌^◌};
+
 use book::book::Book;
 use book::place::Entry;
+use geometry::bounds::Bounds;
 use loaded::loaded::Loaded;
+use refusal::hands::FileFault;
 
-fn byte(bytes: &[u8], at: u64) -> u64 {
-    match usize::try_from(at) {
-        Ok(index) => u64::from(bytes.get(index).copied().unwrap_or(0)),
-        Err(_) => 0,
-    }
+/// The records of a lawful file.
+#[derive(Clone, Copy)]
+pub(crate) struct Records<'a> {
+    nodes: &'a [[u8; 4]],
+    entries: &'a [[u8; 26]],
+    kinds: &'a [u8],
 }
 
-fn short(bytes: &[u8], at: u64) -> u64 {
-    byte(bytes, at).saturating_add(byte(bytes, at.saturating_add(1)).saturating_mul(256))
-}
-
-fn long(bytes: &[u8], at: u64) -> i64 {
-    let low = short(bytes, at);
-    let high = short(bytes, at.saturating_add(2));
-    let bits = high.saturating_mul(65_536).saturating_add(low);
-    let number = i64::try_from(bits).unwrap_or(0);
-    if bits < 2_147_483_648 {
-        number
+// A count from `least` to `most`, and the bytes behind it.
+fn count(bytes: &[u8], least: u16, most: u16) -> Result<(usize, &[u8]), FileFault> {
+    let (number, rest) = bytes.split_first_chunk().ok_or(FileFault::Length)?;
+    let number = u16::from_le_bytes(*number);
+    if least <= number && number <= most {
+        Ok((usize::from(number), rest))
     } else {
-        number.saturating_sub(4_294_967_296)
+        Err(FileFault::Count)
     }
 }
 
-// The places of all nodes together, or none where a node record is unlawful.
-fn places(bytes: &[u8], nodes: u64) -> Option<u64> {
-    let mut sum = 0u64;
-    for node in 0..nodes {
-        let at = node.saturating_mul(4).saturating_add(2);
-        let many = byte(bytes, at.saturating_add(1));
-        if byte(bytes, at) > 7 || many > 16 || short(bytes, at.saturating_add(2)) != sum {
-            return None;
+// So many records, and the bytes behind them.
+fn section<const SIZE: usize>(
+    bytes: &[u8],
+    count: usize,
+) -> Result<(&[[u8; SIZE]], &[u8]), FileFault>
+    requires { (0 < SIZE) × (SIZE < 2 ^ 63) }
+{
+    let (records, rest) = bytes
+        .split_at_checked(count.saturating_mul(SIZE))
+        .ok_or(FileFault::Length)?;
+    Ok((records.as_chunks().0, rest))
+}
+
+// The places of all nodes together.
+fn places(nodes: &[[u8; 4]]) -> Result<usize, FileFault> {
+    let mut sum = 0usize;
+    for [level, places, low, high] in nodes {
+        let first = u16::from_le_bytes([*low, *high]);
+        if *level > 7 || *places > 16 || usize::from(first) != sum {
+            return Err(FileFault::Nodes);
         }
-        sum = sum.saturating_add(many);
+        sum = sum.saturating_add(usize::from(*places));
     }
-    Some(sum)
+    Ok(sum)
 }
 
-fn kinds_fine(bytes: &[u8], at: u64, picks: u64) -> bool {
-    for pick in 0..picks {
-        let kind = byte(bytes, at.saturating_add(pick));
-        if kind < 1 || kind > 5 {
-            return false;
-        }
+/// The records of a file, or why it is unlawful.
+pub(crate) fn decoded(bytes: &[u8]) -> Result<Records<'_>, FileFault> {
+    let (many, rest) = count(bytes, 1, 512)?;
+    let (nodes, rest) = section(rest, many)?;
+    let sum = places(nodes)?;
+    let (many, rest) = count(rest, 0, 2_048)?;
+    if many != sum {
+        return Err(FileFault::Nodes);
     }
-    true
+    let (entries, rest) = section(rest, many)?;
+    let (many, rest) = count(rest, 0, 2_048)?;
+    let (kinds, rest) = rest.split_at_checked(many).ok_or(FileFault::Length)?;
+    if !kinds.iter().all(|kind| (1..=5).contains(kind)) {
+        return Err(FileFault::Kind);
+    }
+    if !rest.is_empty() {
+        return Err(FileFault::Length);
+    }
+    Ok(Records {
+        nodes,
+        entries,
+        kinds,
+    })
 }
 
-fn expected_picks(bytes: &[u8], length: u64, at: u64) -> u8 {
-    let records = at.saturating_add(2);
-    if length < records {
-        return 1;
-    }
-    let picks = short(bytes, at);
-    let end = records.saturating_add(picks);
-    if picks > 2_048 {
-        return 2;
-    }
-    if length < end {
-        return 1;
-    }
-    if !kinds_fine(bytes, records, picks) {
-        return 4;
-    }
-    if length > end { 1 } else { 0 }
+/// An entry as plain numbers, a corner's in the order easting, northing, level.
+#[derive(Clone, Copy, PartialEq, Eq)]
+struct PlainEntry {
+    low: [i32; 3],
+    high: [i32; 3],
+    target: u16,
 }
 
-fn expected_entries(bytes: &[u8], length: u64, at: u64, sum: u64) -> u8 {
-    let records = at.saturating_add(2);
-    if length < records {
-        return 1;
-    }
-    let entries = short(bytes, at);
-    if entries > 2_048 {
-        return 2;
-    }
-    if entries != sum {
-        return 3;
-    }
-    let end = records.saturating_add(entries.saturating_mul(26));
-    if length < end {
-        1
-    } else {
-        expected_picks(bytes, length, end)
-    }
-}
-
-/// The number that refuses the file, 0 where it is lawful.
-pub(crate) fn expected(bytes: &[u8]) -> u8 {
-    let length = bytes.len() as u64;
-    if length < 2 {
-        return 1;
-    }
-    let nodes = short(bytes, 0);
-    if nodes < 1 || nodes > 512 {
-        return 2;
-    }
-    let end = nodes.saturating_mul(4).saturating_add(2);
-    if length < end {
-        return 1;
-    }
-    match places(bytes, nodes) {
-        Some(sum) => expected_entries(bytes, length, end, sum),
-        None => 3,
-    }
-}
-
-fn end_fine(low: i64, high: i64) -> bool {
-    -10_000_000 <= low && low <= high && high <= 10_000_000
-}
-
-// Whether the place is what the record at `at` says.
-fn same_place(place: Option<Entry>, bytes: &[u8], at: u64) -> bool {
-    let fine = end_fine(long(bytes, at), long(bytes, at.saturating_add(12)))
-        && end_fine(
-            long(bytes, at.saturating_add(4)),
-            long(bytes, at.saturating_add(16)),
-        )
-        && end_fine(
-            long(bytes, at.saturating_add(8)),
-            long(bytes, at.saturating_add(20)),
-        );
-    match place {
-        Some(entry) => fine && same_entry(&entry, bytes, at),
-        None => !fine,
-    }
-}
-
-fn same_entry(entry: &Entry, bytes: &[u8], at: u64) -> bool {
-    let box_ends = [
-        entry.bounds.easting.low,
-        entry.bounds.northing.low,
-        entry.bounds.level.low,
-        entry.bounds.easting.high,
-        entry.bounds.northing.high,
-        entry.bounds.level.high,
-    ];
-    let mut from = at;
-    for end in box_ends {
-        if i64::from(end) != long(bytes, from) {
-            return false;
-        }
-        from = from.saturating_add(4);
-    }
-    u64::from(entry.target) == short(bytes, from)
-}
-
-fn same_node(book: &Loaded, bytes: &[u8], node: u16, entries: u64) -> bool {
-    let record = u64::from(node).saturating_mul(4).saturating_add(2);
-    if u64::from(book.level(node)) != byte(bytes, record) {
-        return false;
-    }
-    if u64::from(book.place_count(node)) != byte(bytes, record.saturating_add(1)) {
-        return false;
-    }
-    let first = short(bytes, record.saturating_add(2));
-    for index in 0..book.place_count(node) {
-        let entry = first
-            .saturating_add(u64::from(index))
-            .saturating_mul(26)
-            .saturating_add(entries);
-        if !same_place(book.place(node, index), bytes, entry) {
-            return false;
+impl From<Entry> for PlainEntry {
+    fn from(entry: Entry) -> PlainEntry {
+        let Bounds {
+            easting,
+            northing,
+            level,
+        } = entry.bounds;
+        PlainEntry {
+            low: [easting.low, northing.low, level.low],
+            high: [easting.high, northing.high, level.high],
+            target: entry.target,
         }
     }
-    true
 }
 
-/// Whether a loaded book is the one in the file.
-pub(crate) fn same_book(book: &Loaded, bytes: &[u8]) -> bool {
-    let nodes = short(bytes, 0);
-    let entries = nodes.saturating_mul(4).saturating_add(4);
-    let count = short(bytes, entries.saturating_sub(2));
-    let picks = entries.saturating_add(count.saturating_mul(26));
-    if u64::from(book.node_count()) != nodes
-        || u64::from(book.pick_limit()) != short(bytes, picks)
-    {
-        return false;
+// What the record of an entry says, where its ends make a box.
+fn entry_in(record: &[u8; 26]) -> Option<PlainEntry> {
+    let (ends, target) = record.as_chunks();
+    let (low, ends) = ends.split_first_chunk()?;
+    let (high, _) = ends.split_first_chunk()?;
+    let low = low.map(i32::from_le_bytes);
+    let high = high.map(i32::from_le_bytes);
+    let fine = low.iter().zip(&high).all(|(low, high)| -10_000_000 <= *low
+        && *low <= *high
+        && *high <= 10_000_000);
+    let target = u16::from_le_bytes(*target.first_chunk()?);
+    fine.then_some(PlainEntry { low, high, target })
+}
+
+impl Records<'_> {
+    fn has_node(&self, book: &Loaded, node: u16, record: &[u8; 4]) -> bool {
+        let [level, places, low, high] = *record;
+        let first = usize::from(u16::from_le_bytes([low, high]));
+        let (_, entries) = self.entries.split_at_checked(first).unwrap_or((&[], &[]));
+        book.level(node) == level
+            && book.place_count(node) == places
+            && usize::from(places) <= entries.len()
+            && (0..places).zip(entries).all(|(index, record)| {
+                book.place(node, index).map(PlainEntry::from) == entry_in(record)
+            })
     }
-    for node in 0..book.node_count() {
-        if !same_node(book, bytes, node, entries) {
-            return false;
-        }
+
+    /// Whether a loaded book is the one in the file.
+    pub(crate) fn are_of(&self, book: &Loaded) -> bool {
+        usize::from(book.node_count()) == self.nodes.len()
+            && usize::from(book.pick_limit()) == self.kinds.len()
+            && (0..book.node_count())
+                .zip(self.nodes)
+                .all(|(node, record)| self.has_node(book, node, record))
+            && (0..book.pick_limit()).zip(self.kinds).all(|(pick, kind)| book
+                .kind(pick)
+                .map(u8::from)
+                == Some(*kind))
     }
-    for pick in 0..book.pick_limit() {
-        let number = match book.kind(pick) {
-            Some(kind) => u8::from(kind),
-            None => 0,
-        };
-        if u64::from(number)
-            != byte(
-                bytes,
-                picks.saturating_add(2).saturating_add(u64::from(pick)),
-            )
-        {
-            return false;
-        }
-    }
-    true
 }
