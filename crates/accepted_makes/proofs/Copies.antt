@@ -32,13 +32,13 @@ own_number b true t h = h
 own_number b false t h = omega arith
 
 child_of : (s : Sizes) (u : Target) (k : ℕ) → behind s u ≡ Child k → (c : ℕ) × (u ≡ Child c) × (s.nodes + c ≡ k)
-child_of s (Pick p) k h = absurd (let z : ◌≡◌ {A = ℕ} 0 1 = cc in omega arith)
+child_of s (Pick p) k h = cc
 child_of s (Child c) k h = (c, refl, cc)
 
 behind_one : (s : Sizes) (u v : Target) → behind s u ≡ behind s v → u ≡ v
 behind_one s (Pick p) (Pick q) h = let e : s.picks + p ≡ s.picks + q = cc in ap Pick (omega (arith, e))
-behind_one s (Pick p) (Child k) h = absurd (let z : ◌≡◌ {A = ℕ} 0 1 = cc in omega arith)
-behind_one s (Child k) (Pick p) h = absurd (let z : ◌≡◌ {A = ℕ} 0 1 = cc in omega arith)
+behind_one s (Pick p) (Child k) h = cc
+behind_one s (Child k) (Pick p) h = cc
 behind_one s (Child k) (Child c) h = let e : s.nodes + k ≡ s.nodes + c = cc in ap Child (omega (arith, e))
 
 module _ (m b : Model) (before : Sizes) (acc : Accepted b)

@@ -25,7 +25,7 @@ some_smallest : (bs : List (Option Bounds)) (o : Option Bounds) → IsSmallest b
 some_smallest bs (Some r) s i b h e = (r, refl)
 some_smallest bs None s i b h e =
     let none = All-get_or (λ o. o ≡ None) bs i None h s in
-    absurd (let z : ◌≡◌ {A = ℕ} 0 1 = cc in omega arith)
+    cc
 
 pub smallest_some : (bs : List (Option Bounds)) (i : ℕ) (b : Bounds) → i < length bs → get_or bs i None ≡ Some b → (r : Bounds) × (smallest bs ≡ Some r)
 smallest_some bs = some_smallest bs (smallest bs) (smallest_is bs)

@@ -27,7 +27,7 @@ use Rattle.accepted_makes.proofs.Joins.{child_number}
 use Rattle.accepted_makes.proofs.Rows.{full_above, Sits, row_level, row_count, row_sits, row_filled, row_below}
 
 pick_or_child : {P : Type 0} (a c : ℕ) → Pick a ≡ Child c → P
-pick_or_child a c h = absurd (let z : ◌≡◌ {A = ℕ} 0 1 = cc in omega arith)
+pick_or_child a c h = cc
 
 count_all : (f : ℕ → Bool) (n : ℕ) → ((k : ℕ) → k < n → f k ≡ true) → count_below f n ≡ n
 unfolding count_below

@@ -15,7 +15,7 @@ pub record Fits (l r : Model) : Type 0 where
   pub level_left : (root_node l).level ≡ 7 → ⊥
 
 pub not_refused : (b : Bool) (t : Told) (rest : Result (Unit {0}) Told) → cond b (Err t) rest ≡ Ok tt → (b ≡ false) × (rest ≡ Ok tt)
-not_refused true t rest e = let z : ◌≡◌ {A = ℕ} 0 1 = cc in absurd (omega arith)
+not_refused true t rest e = cc
 not_refused false t rest e = (refl, e)
 
 fits_from : (l r : Model) → joinable l r ≡ Ok tt → Fits l r

@@ -1,6 +1,7 @@
 -- What lies below a place of the tree by sixteens.
-use Rattle.std.specs.Prelude.{◌≡◌, ℕ, zero, suc, ◌+◌, ◌-◌, ◌*◌, ◌<◌, ◌≤◌, min, List, [], ◌∷◌, ◌++◌, length, get_or, take, drop, Some, None, Option, MatchOption, ◌==◌, nat_le, nat_lt, slice_index_or, slice_range, refl}
-use Rattle.std.proofs.Common.{⊎_elim, sym, ◌∙◌, ap, subst, zero-add, suc-add, one-mul, add-zero, arith, length-drop}
+use Rattle.std.specs.Prelude.{◌≡◌, ℕ, zero, suc, ◌+◌, ◌-◌, ◌*◌, ◌<◌, ◌≤◌, min, List, [], ◌∷◌, length, get_or, take, drop, Some, None, Option, MatchOption, ◌==◌, nat_le, nat_lt, slice_index_or, slice_range, refl}
+use Rattle.std.proofs.Common.{⊎_elim, sym, ◌∙◌, ap, subst, one-mul, add-zero, arith, length-drop}
+use Rattle.std.proofs.Math.Seq.{take-add, take-nil}
 use Rattle.std.proofs.lemmas.List.{get_or_past, get_or-drop, drop-drop, take_all}
 use Rattle.std.proofs.lemmas.Bool.{cases_lt, cond_both, ltb-true, ltb-false, eqb-true}
 use Rattle.book.specs.Model.{Node, no_node}
@@ -15,19 +16,10 @@ use Rattle.makes.specs.Smallests.{around_none, smallest_append}
 use Rattle.makes.specs.Groups.{named_length, named_at, group_length, group_at, group_past, above, above_length, above_at}
 use Rattle.makes.specs.Rows.{at_level, row_node, tree_node}
 
-take_none : {A : Type 0} (k : ℕ) → ◌≡◌ {A = List A} (take k []) []
-take_none zero = refl
-take_none (suc k) = refl
-
 -- the first of a run, and the rest of it
 smallest_first : (k : ℕ) (ys : List (Option Bounds)) → smallest (take (suc k) ys) ≡ around_both (slice_index_or ys 0 None) (smallest (take k (drop 1 ys)))
-smallest_first k [] = sym (ap smallest (take_none k))
+smallest_first k [] = sym (ap smallest (take-nil k))
 smallest_first k (y ∷ ys) = refl
-
-take_both : {A : Type 0} (m k : ℕ) (xs : List A) → take (m + k) xs ≡ take m xs ++ take k (drop m xs)
-take_both zero k xs = ap (λ n. take n xs) (zero-add k)
-take_both (suc m) k [] = take_none (suc m + k) ∙ sym (take_none k)
-take_both (suc m) k (x ∷ xs) = ap (λ n. take n (x ∷ xs)) (suc-add m k) ∙ ap (λ ys. x ∷ ys) (take_both m k xs)
 
 -- a run of groups is a run of what is grouped
 pub run_above : (k a : ℕ) (bs : List (Option Bounds)) → smallest (take k (drop a (above bs))) ≡ smallest (take (16 * k) (drop (16 * a) bs))
@@ -45,7 +37,7 @@ run_above (suc k) a bs =
     ∙ ap (λ ys. around_both (smallest (take 16 (drop (16 * a) bs))) (smallest (take k ys))) (drop-drop 1 a (above bs))
     ∙ ap (around_both (smallest (take 16 (drop (16 * a) bs)))) (run_above k (a + 1) bs ∙ ap (λ ys. smallest (take (16 * k) ys)) onward)
     ∙ sym (smallest_append (take 16 (drop (16 * a) bs)) (take (16 * k) (drop 16 (drop (16 * a) bs))))
-    ∙ ap smallest (sym (take_both 16 (16 * k) (drop (16 * a) bs)))
+    ∙ ap smallest (sym (take-add 16 (16 * k) (drop (16 * a) bs)))
     ∙ ap (λ n. smallest (take n (drop (16 * a) bs))) wide
 
 run_one : (q : ℕ) (bs : List (Option Bounds)) → slice_index_or bs q None ≡ smallest (take 1 (drop q bs))

@@ -14,7 +14,7 @@ use Rattle.makes.specs.Groups.{named_length, row_length, row_at, above, above_le
 
 -- one row and what stands above it
 module _ (more v t f : ℕ) (bs : List (Option Bounds)) where
-  here_length : length (row v (named t bs)) ≡ group_count (length bs)
+  pub here_length : length (row v (named t bs)) ≡ group_count (length bs)
   here_length = row_length v (named t bs) ∙ ap group_count (named_length t bs)
 
   pub row_here : (k : ℕ) → k < group_count (length bs) → slice_index_or (rows (suc more) v t f bs) k no_node ≡ node_with v (group (named t bs) k)

@@ -14,8 +14,8 @@ use Rattle.geometry.specs.declared.bounds.Bounds.{Bounds}
 use Rattle.makes.specs.Places.{place_for}
 use Rattle.makes.specs.Smallest.{smallest, box_of}
 use Rattle.makes.specs.Sixteens.{named, group_count, group, groups, node_with, row, rows, by_sixteens, level_at, places_at, place_at, place_total, nodes_for, places_for, NamesBelow, TreeBySixteens}
-use Rattle.makes.specs.Groups.{named_length, named_at, named_boxes, group_length, group_at, row_length, above, above_length, above_at}
-use Rattle.makes.specs.Rows.{last_row, not_last_row, leaf_node, one_row, middle_node, two_rows, top_node, three_rows}
+use Rattle.makes.specs.Groups.{named_length, named_at, named_boxes, group_length, group_at, above, above_length, above_at}
+use Rattle.makes.specs.Rows.{here_length, last_row, not_last_row, leaf_node, one_row, middle_node, two_rows, top_node, three_rows}
 
 -- the places of one row
 groups_total : {A : Type 0} (xs : List A) (k : ℕ) → sum_by length (map (group xs) (range_with_len 0 k)) ≡ min (length xs) (16 * k)
@@ -37,17 +37,14 @@ row_total : (v : ℕ) (ps : List (Option Entry)) → place_total (row v ps) ≡ 
 row_total v ps = nodes_total v (groups ps) ∙ groups_total ps (group_count (length ps)) ∙ omega arith
 
 module _ (more v t f : ℕ) (bs : List (Option Bounds)) where
-  here_count : length (row v (named t bs)) ≡ group_count (length bs)
-  here_count = row_length v (named t bs) ∙ ap group_count (named_length t bs)
-
   count_last : length bs ≤ 16 → length (rows (suc more) v t f bs) ≡ group_count (length bs)
-  count_last h = ap length (last_row more v t f bs h ∙ append-nil (row v (named t bs))) ∙ here_count
+  count_last h = ap length (last_row more v t f bs h ∙ append-nil (row v (named t bs))) ∙ here_length more v t f bs
 
   count_more : 16 < length bs → length (rows (suc more) v t f bs) ≡ group_count (length bs) + length (rows more (v + 1) f (f + group_count (length bs)) (above bs))
   count_more h =
       ap length (not_last_row more v t f bs h)
       ∙ length-append (row v (named t bs)) _
-      ∙ ap (λ k. k + length (rows more (v + 1) f (f + group_count (length bs)) (above bs))) here_count
+      ∙ ap (λ k. k + length (rows more (v + 1) f (f + group_count (length bs)) (above bs))) (here_length more v t f bs)
 
   here_total : place_total (row v (named t bs)) ≡ length bs
   here_total = row_total v (named t bs) ∙ named_length t bs

@@ -129,8 +129,7 @@ impl<L: Book, R: Book> Book for Join<L, R> {
             .map_or(0, |seam| seam.left.picks + seam.right.picks)
     }
 
-    // This and `place_count` ask two books of two types: one function for both would take a closure for each book and
-    // each question, and say less than these lines.
+    // The two books differ in type: a function for this and `place_count` would take three closures, and be no plainer.
     fn level(&self, node: u16) -> u8 {
         self.seam.map_or(0, |seam| match seam.part(node) {
             Part::Left(k) => self.left.level(k),
