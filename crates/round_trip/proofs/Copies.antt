@@ -36,27 +36,13 @@ module _ (m : Model) (xs : List ℕ) (n : ℕ) (answer : Ok n ≡ write_out_answ
   pub copied : (bytes : List ℕ) (before held : Model) → decode bytes ≡ Ok m → held ≡ held_after (decode bytes) before → held ≡ book_copied m (length xs) before
   copied bytes before held back h = h ∙ ap (λ d. held_after d before) back ∙ ap (λ a. copied_or a m before) answer
 
-pub not_copied : (m : Model) (room : ℕ) (t : Told) (before : Model) → Err t ≡ write_out_answer m room → before ≡ book_copied m room before
-not_copied m room t before answer = ap (λ a. copied_or a m before) answer
-
 -- a file that is read as a book is not refused
 pub not_refused : {P : Type 0} (file : Result Model Told) (m : Model) (t : Told) → file ≡ Ok m → Err t ≡ load_answer file → P
 not_refused file m t e r = err_ok (r ∙ ap load_answer e)
 
-pub refused : (file : Result Model Told) (t : Told) → Err t ≡ load_answer file → file ≡ Err t
-refused (Ok m) t r = err_ok r
-refused (Err u) t r = let same : u ≡ t = cc in ap (λ v. Err v) same
-
 pub accepted : (file : Result Model Told) (before after : Model) → Ok tt ≡ load_answer file → after ≡ held_after file before → file ≡ Ok after
 accepted (Ok m) before after r h = ap (λ b. Ok b) (sym h)
 accepted (Err t) before after r h = err_ok (sym r)
-
-module _ (bytes : List ℕ) (t : Told) (e : decode bytes ≡ Err t) where
-  pub refused_answer : (room : ℕ) → Err t ≡ file_copy_answer bytes room
-  refused_answer room = ap (λ d. of_file d (length bytes) room) (sym e)
-
-  pub refused_leaves : (before : List ℕ) → before ≡ file_copy_leaves bytes before
-  refused_leaves before = ap (λ a. left_by a bytes before) (refused_answer (length before))
 
 module _ (bytes : List ℕ) (m : Model) (e : decode bytes ≡ Ok m) (k : Kept bytes m) where
   abbrev rest : List ℕ → ℕ → Result ℕ Told

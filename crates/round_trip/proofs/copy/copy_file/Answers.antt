@@ -1,21 +1,13 @@
-use Rattle.std.proofs.Common.{◌<◌, length, Err, ap, ◌∙◌, arith}
+use Rattle.std.proofs.Common.{◌<◌, length, arith}
 use Rattle.std.proofs.ByRecursion.{All-from_get_or}
-use Rattle.std.proofs.lemmas.Result.{err_from_is_err_and}
-use Rattle.refusal.specs.Told.{answered, told}
 use Rattle.loaded.specs.Decode.{decode}
 use Rattle.loaded.specs.Loaded.{loaded_model}
-use Rattle.round_trip.proofs.Copies.{refused, refused_answer, refused_leaves, accepted, same_answer, same_leaves}
+use Rattle.round_trip.proofs.Copies.{accepted, same_answer, same_leaves}
 use Rattle.round_trip.proofs.LoadedWrites.{kept, loaded_writes}
 use Rattle.round_trip.proofs.copy.copy_file.Goals as goal
 
-pub returns-in_err-load : goal.returns-in_err-load
-returns-in_err-load c =
-    let p = err_from_is_err_and c.from_residual.result c.from_residual.ensures.1 in
-    let no = refused _ _ c.in_err-load.ensures.answer in
-    let told_so = ap (answered told) p.1 ∙ ap (λ t. Err t) p.2 in
-    let answer = refused_answer _ _ no (length c.args.room.now) in
-    let leaves = refused_leaves _ _ no c.args.room.now in
-    record { answer = cc; bytes = cc; book = c.load.ensures.book; writes = loaded_writes }
+pub returns-in_err-load-clause-writes : goal.returns-in_err-load-clause-writes
+returns-in_err-load-clause-writes c = loaded_writes
 
 pub returns : goal.returns
 returns c =
