@@ -1,11 +1,20 @@
 -- What is read of a text, and that a level's own text reads as that level.
-use Rattle.std.proofs.Common.{◌≡◌, ℕ, zero, suc, ◌+◌, ◌-◌, ◌*◌, ◌/◌, ◌%◌, ◌^◌, ◌<◌, ◌≤◌, Bool, true, false, cond, ◌&&◌, eqb, List, [], ◌∷◌, ◌++◌, length, get_or, drop, ℤ, pos, negsuc, neg_ℤ, Ok, Err, decimal, Decides, Result, sym, refl, ap, ◌∙◌, subst, pow-suc, add-one, arith, lit<, w32, SFits, length-append}
+use Rattle.std.proofs.Common.{◌≡◌, ℕ, zero, suc, ◌+◌, ◌-◌, ◌*◌, ◌/◌, ◌%◌, ◌^◌, ◌<◌, ◌≤◌, Bool, true, false, cond, not, ◌&&◌, eqb, List, [], ◌∷◌, ◌++◌, length, get_or, take, map, Some, Option, ℤ, pos, negsuc, neg_ℤ, Ok, Err, decimal, Decides, Result, sym, refl, ap, ◌∙◌, subst, pow-suc, arith, lit<, w32, SFits, length-append}
 use native.Mathlib.Nat.{pow-le-pow_right}
 use Rattle.std.specs.Char.{is_ascii_digit}
+use Rattle.std.specs.List.{fold, filter}
+use Rattle.std.proofs.lemmas.List.Filters.{length-filter_both}
+use denote.Param.Members.{Mut}
+use Rattle.std.specs.Fn.{Called}
+use Rattle.std.specs.Iterator.{Yields, FoldsItems}
+use Rattle.std.proofs.lemmas.Fn.{fold_over}
+use Rattle.std.proofs.lemmas.List.Sums.{fold_push}
+use Rattle.std.proofs.lemmas.Iterator.{YieldsList}
+use Rattle.std.proofs.lemmas.Iterator.Consumers.{YieldsList-turn, YieldsList-so_far}
 use Rattle.std.specs.Str.{bytes_eq}
 use Rattle.std.proofs.lemmas.Bool.Decides.{nat_tests, Decides-and}
 use Rattle.std.proofs.lemmas.Slice.Eq.{bytes_eq-Decides}
-use Rattle.std.proofs.lemmas.List.{get_or_append_left, at_drop_more, at_drop_all}
+use Rattle.std.proofs.lemmas.List.{get_or_append_left, take_all}
 use Rattle.std.proofs.lemmas.Fmt.{decimal_by_steps, decimal_digit, decimal_nonempty, first_decimal, length-decimal-le}
 use Rattle.refusal.specs.Told.{Told, plain}
 use Rattle.level.specs.Range.{is_level}
@@ -37,29 +46,72 @@ spell_hundredths n h =
     ∙ with_digit (n / 100 * 10 + n / 10 % 10) (n % 10) (omega arith)
     ∙ (let e : (n / 100 * 10 + n / 10 % 10) * 10 + n % 10 ≡ n = omega arith in e)
 
--- ---- one more turn of the loop that reads them
-with_byte_le : (sum byte : ℕ) → with_byte sum byte ≤ sum * 10 + 9
-with_byte_le sum byte = grind (arith, nat_tests)
+-- ---- the fold that reads them
+abbrev pub more : ℕ → ℕ → ℕ
+more sum byte = sum * 10 + (byte - 48)
 
-pub spell_more : (text : List ℕ) (i sum next : ℕ) → i < length text → next ≡ with_byte sum (get_or text i 0) → digits_spell sum (drop i text) ≡ digits_spell 0 text → sum < 10 ^ i → (digits_spell next (drop (i + 1) text) ≡ digits_spell 0 text) × (next < 10 ^ (i + 1))
-spell_more text i sum next h e inv small =
-    let k = with_byte_le sum (get_or text i 0) in
-    let p : 10 ^ (i + 1) ≡ 10 ^ i * 10 = ap (λ m. 10 ^ m) (add-one i) ∙ pow-suc 10 i in
-    (ap (λ x. digits_spell x (drop (i + 1) text)) e ∙ sym (at_drop_more (digits_spell sum) text i 0 h) ∙ inv, omega arith)
+pub fold_spells : (sum : ℕ) (text : List ℕ) → fold more sum (filter is_ascii_digit text) ≡ digits_spell sum text
+fold_spells sum [] = refl
+fold_spells sum (byte ∷ text) =
+    elim (is_ascii_digit byte) as (λ t. fold more sum (cond t (byte ∷ filter is_ascii_digit text) (filter is_ascii_digit text)) ≡ digits_spell (cond t (sum * 10 + (byte - 48)) sum) text)
+    [ true ↦ fold_spells (more sum byte) text | false ↦ fold_spells sum text ]
 
-pub digit_counts : (sum byte d : ℕ) → true ≡ is_ascii_digit byte → d ≡ byte - 48 → sum * 10 + d ≡ with_byte sum byte
-digit_counts sum byte d t e = ap (λ x. sum * 10 + x) e ∙ ap (λ b. cond b (sum * 10 + (byte - 48)) sum) t
+digits_few : (text : List ℕ) → length (filter is_ascii_digit text) ≤ length text
+digits_few text = omega (arith, length-filter_both is_ascii_digit (λ x. not (is_ascii_digit x)) (λ x. refl) text)
 
-pub other_passed : (sum byte : ℕ) → false ≡ is_ascii_digit byte → sum ≡ with_byte sum byte
-other_passed sum byte t = ap (λ b. cond b (sum * 10 + (byte - 48)) sum) t
+digit_or_rest : (byte d : ℕ) (rest : List ℕ) (k : ℕ) (t : Bool) → t ≡ is_ascii_digit byte → ((j : ℕ) → j < length rest → is_ascii_digit (get_or rest j d) ≡ true) → k < length (cond t (byte ∷ rest) rest) → is_ascii_digit (get_or (cond t (byte ∷ rest) rest) k d) ≡ true
+digit_or_rest byte d rest zero true e all h = sym e
+digit_or_rest byte d rest (suc k) true e all h = all k (omega arith)
+digit_or_rest byte d rest k false e all h = all k h
 
-pub spell_all : (text : List ℕ) (i sum : ℕ) → length text ≤ i → digits_spell sum (drop i text) ≡ digits_spell 0 text → sum ≡ digits_spell 0 text
-spell_all text i sum h e = sym (at_drop_all (digits_spell sum) text i h) ∙ e
+is_digit : (text : List ℕ) (d k : ℕ) → k < length (filter is_ascii_digit text) → is_ascii_digit (get_or (filter is_ascii_digit text) k d) ≡ true
+is_digit [] d k h = absurd (omega arith)
+is_digit (byte ∷ text) d k h = digit_or_rest byte d (filter is_ascii_digit text) k (is_ascii_digit byte) refl (is_digit text d) h
 
-pub spell_small : (i sum : ℕ) → i ≤ longest_text → sum < 10 ^ i → sum < 10 ^ longest_text
-spell_small i sum h k =
-    let m : 10 ^ i ≤ 10 ^ longest_text = pow-le-pow_right {n = 10} (lit< tt) {i = i} {j = longest_text} h in
+ten_more : (m k : ℕ) → m * 10 ^ suc k ≡ (m * 10) * 10 ^ k
+ten_more m k = let p : 10 ^ suc k ≡ 10 ^ k * 10 = pow-suc 10 k in ap (λ x. m * x) p ∙ (let q : m * (10 ^ k * 10) ≡ (m * 10) * 10 ^ k = grind arith in q)
+
+one_more : (byte : ℕ) (rest : List ℕ) (sum m k : ℕ) (t : Bool) → t ≡ is_ascii_digit byte → ((s n j : ℕ) → s < n → fold more s (take j rest) < n * 10 ^ j) → sum < m → fold more sum (take (suc k) (cond t (byte ∷ rest) rest)) < m * 10 ^ suc k
+one_more byte rest sum m k true e small h =
+    let d : byte - 48 < 10 = grind (arith, nat_tests) in
+    let s : fold more (more sum byte) (take k rest) < (m * 10) * 10 ^ k = small (more sum byte) (m * 10) k (omega arith) in
+    omega (arith, ten_more m k)
+one_more byte rest sum m k false e small h = small sum m (suc k) h
+
+fold_none : (sum k : ℕ) → fold more sum (take k []) ≡ sum
+fold_none sum zero = refl
+fold_none sum (suc k) = refl
+
+fold_small : (text : List ℕ) (sum m k : ℕ) → sum < m → fold more sum (take k (filter is_ascii_digit text)) < m * 10 ^ k
+fold_small text sum m zero h = omega arith
+fold_small [] sum m (suc k) h = let s = fold_small [] sum (m * 10) k (omega arith) in omega (arith, s, ten_more m k, fold_none sum k)
+fold_small (byte ∷ text) sum m (suc k) h = one_more byte (filter is_ascii_digit text) sum m k (is_ascii_digit byte) refl (fold_small text) h
+
+pub spelt_small : (text : List ℕ) → length text ≤ longest_text → digits_spell 0 text < 10 ^ longest_text
+spelt_small text short =
+    let all = filter is_ascii_digit text in
+    let b : fold more 0 (take (length all) all) < 1 * 10 ^ length all = fold_small text 0 1 (length all) (lit< tt) in
+    let p : 10 ^ length all ≤ 10 ^ longest_text = pow-le-pow_right {n = 10} (lit< tt) {i = length all} {j = longest_text} (omega (arith, digits_few text)) in
+    let e : fold more 0 (take (length all) all) ≡ digits_spell 0 text = ap (fold more 0) (take_all (length all) all (omega arith)) ∙ fold_spells 0 text in
     omega arith
+
+-- where each call adds a digit to what was read, all of them spell this number
+pub folded : {S A F : Type 0} {steps : S → Option A → S → Type 0} {g : Mut F (ℕ × (A × Unit {0})) ℕ} {s : S} {f : F} {v : A → ℕ} (r : ℕ) (all : List ℕ) → FoldsItems steps g s f 0 r → YieldsList steps v s all → ((sum : ℕ) (x : A) (b : ℕ) (q : F) → Called g f (sum, (x, tt)) b q → (b ≡ more sum (v x)) × (q ≡ f)) → r ≡ fold more 0 all
+folded {steps = steps} {g = g} {s = s} {f = f} {v = v} r all ran road acts =
+    fold_over steps v g (λ ys a. a ≡ fold more 0 ys) f
+    (λ ys a x b q j k. let w = acts a x b q k in (w.0 ∙ ap (λ sum. more sum (v x)) j ∙ sym (fold_push more 0 ys (v x)), w.1))
+    s all 0 r road.runs refl ran
+
+-- so far the digits xs were read, and x comes next
+pub next_digit : {S A : Type 0} {steps : S → Option A → S → Type 0} {v : A → ℕ} {s : S} (xs : List A) (t u : S) (x : A) (sum : ℕ) (text : List ℕ) → length text ≤ longest_text → sum ≡ fold more 0 (map v xs) → Yields steps s xs t → steps t (Some x) u → YieldsList steps v s (filter is_ascii_digit text) → (48 ≤ v x) × (v x ≤ 57) × (sum < 10 ^ 9)
+next_digit {v = v} xs t u x sum text short e y turn road =
+    let m = YieldsList-turn road xs t y (Some x) u x refl turn in
+    let f = YieldsList-so_far road xs t y in
+    let d : is_ascii_digit (v x) ≡ true = ap is_ascii_digit m.1 ∙ is_digit text (v x) (length xs) m.0 in
+    let p : 10 ^ length xs ≤ 10 ^ 9 = pow-le-pow_right {n = 10} (lit< tt) {i = length xs} {j = 9} (omega (arith, digits_few text)) in
+    let b : fold more 0 (take (length xs) (filter is_ascii_digit text)) < 1 * 10 ^ length xs = fold_small text 0 1 (length xs) (lit< tt) in
+    let c : sum ≡ fold more 0 (take (length xs) (filter is_ascii_digit text)) = e ∙ ap (fold more 0) f in
+    (grind (arith, nat_tests), grind (arith, nat_tests), omega arith)
 
 -- ---- a level's own text
 level_small : (n : ℕ) → is_level (pos n) ≡ true → n < 100_000_000

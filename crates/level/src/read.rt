@@ -12,19 +12,14 @@ use refusal::hands::TypingFault;
 const LONGEST: usize = 10;
 
 /// The number that the digits of `text` spell, whatever stands between them.
-#[tactic(auto, using(crate::proofs::Reading::spell_more, crate::proofs::Reading::spell_all, crate::proofs::Reading::spell_small, crate::proofs::Reading::digit_counts, crate::proofs::Reading::other_passed))]
 fn digits_spell(text: &[u8]) -> u64
     requires { length text.now ≤ longest_text }
     ensures value { result ≡ digits_spell 0 text.now }
     ensures bound { result < 10 ^ longest_text }
 {
-    let mut sum = 0u64;
-    for byte in text {
-        if byte.is_ascii_digit() {
-            sum = sum * 10 + u64::from(*byte - b'0');
-        }
-    }
-    sum
+    text.iter()
+        .filter(|byte| byte.is_ascii_digit())
+        .fold(0, |sum, byte| sum * 10 + u64::from(*byte - b'0'))
 }
 
 /// The one level that `text` can be the text of.
