@@ -13,5 +13,5 @@ pub const LEVEL_MOST: i32 = 10_000_000;
 pub fn is_level(hundredths: i32) -> bool
     ensures { result ≡ is_level hundredths }
 {
-    LEVEL_LEAST <= hundredths && hundredths <= LEVEL_MOST
+    (LEVEL_LEAST..=LEVEL_MOST).contains(&hundredths)
 }

@@ -63,6 +63,7 @@ fn left_alone(rt: HostRuntime) {
 #[test]
 fn printed(rt: HostRuntime) -> Result<(), Fail> {
     let top = Level::try_from(-35)?;
+    assert_eq!(rt; i32::from(top), -35);
     let line = format!(in rt.alloc(); "top {top} opened")?;
     assert_eq!(rt; line.as_str(), "top -0.35 opened");
     Ok(())
