@@ -1,6 +1,7 @@
 //! The Euclidean measure, left squared.
 
 ghost use Rattle.std.specs.Prelude.{◌≡◌, ◌*◌, ◌≤◌};
+ghost use Rattle.geometry.specs.Range.{widest};
 ghost use Rattle.geometry.specs.Distance.{sum_of_squares};
 ghost use Rattle.geometry.specs.Gaps.{squares_grow, squares_small};
 
@@ -12,9 +13,9 @@ use crate::gap::Gaps;
 pub struct Euclidean;
 
 fn square(gap: u64) -> u64
-    requires { gap ≤ 20000000 }
+    requires { gap ≤ widest }
     ensures value { result ≡ gap * gap }
-    ensures bound { result ≤ 400000000000000 }
+    ensures bound { result ≤ widest * widest }
 {
     gap * gap
 }

@@ -21,7 +21,7 @@ impl Span {
     /// 0 if the two share a coordinate, else the difference of the two nearer ends.
     pub fn gap(&self, other: &Span) -> u64
         ensures value { result ≡ gap_of self.now other.now }
-        ensures bound { result ≤ 20000000 }
+        ensures bound { result ≤ widest }
     {
         let above = other.low - self.high;
         let below = self.low - other.high;

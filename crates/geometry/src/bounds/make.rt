@@ -25,6 +25,7 @@ fn coordinate(x: i32) -> bool
 
 impl Span {
     /// The span with these ends, where there is one.
+    #[tactic(auto, using(crate::proofs::Spans::no_span))]
     pub fn new(low: i32, high: i32) -> Option<Span>
         ensures { result ≡ span_at low high }
     {
