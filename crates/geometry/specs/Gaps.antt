@@ -6,7 +6,7 @@ use Rattle.std.proofs.lemmas.Nat.{mul-le}
 use Rattle.geometry.specs.Gap.{gap}
 use Rattle.geometry.specs.Range.{widest}
 use Rattle.geometry.specs.Within.{Inside, Within, On}
-use Rattle.geometry.specs.Distance.{Combine, sum_of_squares, sum_of, greatest_of, box_distance}
+use Rattle.geometry.specs.Distance.{Way, sum_of_squares, sum_of, greatest_of, box_distance}
 use Rattle.geometry.specs.Nearest.{apart, Least}
 use Rattle.geometry.specs.declared.bounds.Span.{Span}
 use Rattle.geometry.specs.declared.bounds.Bounds.{Bounds}
@@ -41,7 +41,7 @@ met q b =
     (λ l. record { here = q.low; there = q.low; here_on = (omega (arith, ints), omega (arith, ints)); there_on = (omega (arith, ints), omega (arith, ints)); is_gap = omega (arith, ints) })))
 
 -- a way of putting three numbers together that grows with each
-abbrev pub Grows : Combine → Type 0
+abbrev pub Grows : Way → Type 0
 Grows f = (a b c d e g : ℕ) → a ≤ d → b ≤ e → c ≤ g → f a b c ≤ f d e g
 
 pub squares_grow : Grows sum_of_squares
@@ -53,19 +53,19 @@ sum_grows a b c d e g p q r = omega arith
 pub greatest_grows : Grows greatest_of
 greatest_grows a b c d e g p q r = omega arith
 
-pub monotone : (f : Combine) → Grows f → (q o i : Bounds) → Within i o → box_distance f q o ≤ box_distance f q i
+pub monotone : (f : Way) → Grows f → (q o i : Bounds) → Within i o → box_distance f q o ≤ box_distance f q i
 unfolding box_distance
 monotone f grow q o i w =
     grow _ _ _ _ _ _ (gap_mono q.easting o.easting i.easting w.0)
     (gap_mono q.northing o.northing i.northing w.1) (gap_mono q.level o.level i.level w.2)
 
 -- no measure that grows gives more than it does at the widest gaps
-most : (f : Combine) → Grows f → (q b : Bounds) → box_distance f q b ≤ f widest widest widest
+most : (f : Way) → Grows f → (q b : Bounds) → box_distance f q b ≤ f widest widest widest
 unfolding box_distance
 most f grow q b =
     grow _ _ _ _ _ _ (gap_most q.easting b.easting) (gap_most q.northing b.northing) (gap_most q.level b.level)
 
-pub fits : (f : Combine) → Grows f → f widest widest widest < 2 ^ 64 → (q b : Bounds) → box_distance f q b < 2 ^ 64
+pub fits : (f : Way) → Grows f → f widest widest widest < 2 ^ 64 → (q b : Bounds) → box_distance f q b < 2 ^ 64
 fits f grow small q b = omega (arith, most f grow q b)
 
 pub squares_small : sum_of_squares widest widest widest < 2 ^ 64
@@ -77,10 +77,10 @@ sum_small = omega arith
 pub greatest_small : greatest_of widest widest widest < 2 ^ 64
 greatest_small = omega arith
 
-same_by : (f : Combine) {a b c d e g : ℕ} → a ≡ d → b ≡ e → c ≡ g → f a b c ≡ f d e g
+same_by : (f : Way) {a b c d e g : ℕ} → a ≡ d → b ≡ e → c ≡ g → f a b c ≡ f d e g
 same_by f p q r = cc
 
-least : (f : Combine) → Grows f → (q b : Bounds) → Least f q b (box_distance f q b)
+least : (f : Way) → Grows f → (q b : Bounds) → Least f q b (box_distance f q b)
 unfolding box_distance
 least f grow q b =
     let e = met q.easting b.easting in
@@ -100,5 +100,5 @@ least f grow q b =
       );
     }
 
-pub least_of : (f : Combine) → Grows f → (q b : Bounds) (r : ℕ) → r ≡ box_distance f q b → Least f q b r
+pub least_of : (f : Way) → Grows f → (q b : Bounds) (r : ℕ) → r ≡ box_distance f q b → Least f q b r
 least_of f grow q b r e = subst (Least f q b) (sym e) (least f grow q b)

@@ -1,8 +1,8 @@
 //! Measures that put the gaps on the three axes together.
 
-ghost use Rattle.std.specs.Prelude.{◌≡◌, ℕ, ◌^◌, ◌<◌};
+ghost use Rattle.std.specs.Prelude.{◌≡◌, ◌^◌, ◌<◌};
 ghost use Rattle.geometry.specs.Range.{widest};
-ghost use Rattle.geometry.specs.Distance.{box_distance};
+ghost use Rattle.geometry.specs.Distance.{Way, box_distance};
 ghost use Rattle.geometry.specs.Nearest.{Least};
 ghost use Rattle.geometry.specs.Gaps.{Grows, monotone as never_nearer, fits as fits_by};
 
@@ -12,7 +12,7 @@ use crate::measure::Measure;
 
 /// A way of putting three gaps together. Each is a measure.
 pub trait Combine {
-    ghost way: { Self → ℕ → ℕ → ℕ → ℕ };
+    ghost way: { Self → Way };
 
     fn combine(&self, gaps: &Gaps) -> u64
         ensures { result ≡ way self.now gaps.now.easting gaps.now.northing gaps.now.level };
