@@ -1,5 +1,5 @@
 -- A file that is read as a book is laid out lawfully.
-use Rattle.std.proofs.Common.{◌≡◌, ℕ, zero, suc, ◌+◌, ◌*◌, ◌/◌, ◌%◌, ◌<◌, ◌≤◌, Bool, true, false, ◌&&◌, eqb, leb, List, [], ◌∷◌, ◌++◌, map, length, get_or, take, drop, is_some, Some, None, Ok, Err, Option, Result, sym, refl, ap, ◌∙◌, subst, suc-mul, mul-one, arith, length-drop, length-take}
+use Rattle.std.proofs.Common.{◌≡◌, ℕ, zero, suc, ◌+◌, ◌*◌, ◌/◌, ◌%◌, ◌<◌, ◌≤◌, Bool, true, false, ◌&&◌, eqb, leb, List, [], ◌∷◌, ◌++◌, map, length, get_or, take, drop, is_some, Some, None, Ok, Err, Option, Result, sym, refl, ap, ◌∙◌, subst, suc-mul, mul-one, arith, length-take}
 use lib.ListN.{length-map}
 use Rattle.std.proofs.lemmas.List.{take-append-drop, append-nil, nil_from_length}
 use Rattle.std.proofs.lemmas.Bool.{and_parts, leb-true, eqb-true}
@@ -12,16 +12,20 @@ use Rattle.book.specs.declared.kind.Kind.{Kind}
 use Rattle.book.specs.declared.kind.Kind.TheVariants.{CasingTop, Collar, Perforation, Marker, FluidLevel}
 use Rattle.book.specs.declared.place.Entry.{Entry}
 use Rattle.loaded.specs.declared.record.NodeRecord.{NodeRecord}
-use Rattle.loaded.specs.Reading.{Read, read, after, tested, count_in, records_in, rows}
+use Rattle.loaded.specs.Reading.{Read, read, after, tested, count_in, records_in}
 use Rattle.loaded.specs.Tables.{book_of, places_of_all, within_limits, firsts_add_up, lawful_nodes}
 use Rattle.loaded.specs.Decode.{nodes_from, place_from, places_from, all_kinds, with_kind, kinds_from, node_section, entry_section, pick_section, three_sections, decode}
+use Rattle.std.specs.Simd.{first_chunks}
+use Rattle.loaded.proofs.Cut.{chunks_joined, chunks_each, chunks_long, chunks_rows}
+use Rattle.loaded.proofs.Filling.{length_rows}
+use Rattle.loaded.specs.Decode.{node_from}
 use Rattle.loaded.specs.Lawful.{short_bytes, section, node_bytes, kind_bytes, LawfulFile}
 
 abbrev Bytes : List ℕ → Type 0
 Bytes = AllByRecursion (λ (b : ℕ). b < 256)
 
 refused : {A B : Type 0} {t : Told} {b : B} → Err t ≡ Ok b → A
-refused e = let z : ◌≡◌ {A = ℕ} 0 1 = cc in absurd (omega arith)
+refused e = absurd cc
 
 ok_same : {A : Type 0} (x y : A) → ◌≡◌ {A = Result A Told} (Ok x) (Ok y) → x ≡ y
 ok_same x y e = cc
@@ -104,30 +108,6 @@ nodes_apart (suc n) (a ∷ b ∷ c ∷ d ∷ raw) e h =
     ∙ ap (λ (m : ℕ). a ∷ b ∷ c ∷ m ∷ rest) high
     ∙ ap (λ (bs : List ℕ). a ∷ b ∷ c ∷ d ∷ bs) (nodes_apart n raw (omega (arith, suc-mul n 4)) h.1.1.1.1)
 
-abbrev cut_into : ℕ → List ℕ → List (List ℕ)
-cut_into = rows (λ (e : List ℕ). e) 26
-
-entries_apart : (n : ℕ) (raw : List ℕ) → length raw ≡ n * 26 → flat_map (λ (r : List ℕ). r) (cut_into n raw) ≡ raw
-entries_apart zero raw e = sym (nil_from_length raw (omega arith))
-entries_apart (suc n) raw e =
-    ap (λ (bs : List ℕ). take 26 raw ++ bs) (entries_apart n (drop 26 raw) (simp length-drop (omega (arith, suc-mul n 26))))
-    ∙ take-append-drop 26 raw
-
-entries_sized : (n : ℕ) (raw : List ℕ) → length raw ≡ n * 26 → AllByRecursion (λ (e : List ℕ). length e ≡ 26) (cut_into n raw)
-entries_sized zero raw e = tt
-entries_sized (suc n) raw e = (
-  simp length-take (omega (arith, suc-mul n 26)),
-  entries_sized n (drop 26 raw) (simp length-drop (omega (arith, suc-mul n 26))),
-)
-
-entries_count : (n : ℕ) (raw : List ℕ) → length (cut_into n raw) ≡ n
-entries_count zero raw = refl
-entries_count (suc n) raw = ap suc (entries_count n (drop 26 raw))
-
-entries_places : (n : ℕ) (raw : List ℕ) → map place_from (cut_into n raw) ≡ places_from n raw
-entries_places zero raw = refl
-entries_places (suc n) raw = ap (λ (ps : List (Option Entry)). place_from (take 26 raw) ∷ ps) (entries_places n (drop 26 raw))
-
 number_of_lem : (b : ℕ) (k : Kind) → kind_with b ≡ Some k → number_of k ≡ b
 number_of_lem b CasingTop e = grind (arith, nat_tests)
 number_of_lem b Collar e = grind (arith, nat_tests)
@@ -137,11 +117,11 @@ number_of_lem b FluidLevel e = grind (arith, nat_tests)
 
 kind_apart : (o : Option Kind) (b : ℕ) (raw : List ℕ) → kind_with b ≡ o → is_some o ≡ true → flat_map (λ (r : List ℕ). r) (map kind_bytes (kinds_from raw)) ≡ raw → flat_map (λ (r : List ℕ). r) (map kind_bytes (with_kind o (kinds_from raw))) ≡ b ∷ raw
 kind_apart (Some k) b raw e s h = ap (λ (m : ℕ). m ∷ flat_map (λ (r : List ℕ). r) (map kind_bytes (kinds_from raw))) (number_of_lem b k e) ∙ ap (λ (bs : List ℕ). b ∷ bs) h
-kind_apart None b raw e s h = let z : ◌≡◌ {A = ℕ} 0 1 = cc in absurd (omega arith)
+kind_apart None b raw e s h = absurd cc
 
 kind_counts : (o : Option Kind) (ks : List Kind) → is_some o ≡ true → length (with_kind o ks) ≡ suc (length ks)
 kind_counts (Some k) ks h = refl
-kind_counts None ks h = let z : ◌≡◌ {A = ℕ} 0 1 = cc in absurd (omega arith)
+kind_counts None ks h = absurd cc
 
 -- the bytes of pick records are the numbers of the kinds in them
 kinds_apart : (raw : List ℕ) → all_kinds raw ≡ true → flat_map (λ (r : List ℕ). r) (map kind_bytes (kinds_from raw)) ≡ raw
@@ -155,10 +135,6 @@ kinds_count [] h = refl
 kinds_count (b ∷ raw) h =
     let t = and_parts (is_some (kind_with b)) (all_kinds raw) h in
     kind_counts (kind_with b) (kinds_from raw) t.0 ∙ ap suc (kinds_count raw t.1)
-
-nodes_count : (n : ℕ) (raw : List ℕ) → length (nodes_from n raw) ≡ n
-nodes_count zero raw = refl
-nodes_count (suc n) raw = ap suc (nodes_count n (drop 4 raw))
 
 levels_apart : (nodes : List NodeRecord) → within_limits nodes ≡ true → AllByRecursion (λ (r : NodeRecord). r.level ≤ 7) nodes
 levels_apart [] h = tt
@@ -203,7 +179,7 @@ node_section_apart bytes x h e =
     let raw = two.0.value in
     let r = records_apart n 4 one.0.rest two.0 c.rest two.1 in
     let three = tested_ok 3 (lawful_nodes (nodes_from n raw)) (Ok (read (nodes_from n raw) two.0.rest)) x two.2 in
-    let count = nodes_count n raw in
+    let count = length_rows node_from 4 n raw in
     subst (NodesApart bytes) (ok_same (read (nodes_from n raw) two.0.rest) x three.1)
     (record {
       laid = section_again n (map node_bytes (nodes_from n raw)) bytes one.0.rest raw two.0.rest (length-map (nodes_from n raw) node_bytes ∙ count) (nodes_apart n raw r.long r.here) c.laid r.laid;
@@ -233,15 +209,15 @@ entry_section_apart places bytes x h e =
     let two = after_ok (records_in n 26 one.0.rest) (last n) x sum.1 in
     let raw = two.0.value in
     let r = records_apart n 26 one.0.rest two.0 c.rest two.1 in
-    let count = entries_count n raw in
+    let count = chunks_long 26 n raw in
     subst (EntriesApart places bytes) (ok_same (read (places_from n raw) two.0.rest) x two.2)
     (record {
-      entries = cut_into n raw;
-      laid = section_again n (cut_into n raw) bytes one.0.rest raw two.0.rest count (entries_apart n raw r.long) c.laid r.laid;
+      entries = first_chunks 26 n raw;
+      laid = section_again n (first_chunks 26 n raw) bytes one.0.rest raw two.0.rest count (chunks_joined 26 n raw r.long) c.laid r.laid;
       most = omega (arith, count, c.below);
-      sized = entries_sized n raw r.long;
+      sized = chunks_each 26 n raw r.long;
       total = sym (count ∙ eqb-true n places sum.0);
-      holds = sym (entries_places n raw);
+      holds = sym (chunks_rows 26 place_from n raw);
       rest = r.rest;
     })
 

@@ -1,5 +1,5 @@
 -- A file that is laid out lawfully is read as its book.
-use Rattle.std.proofs.Common.{◌≡◌, ℕ, suc, ◌+◌, ◌*◌, ◌/◌, ◌%◌, ◌<◌, ◌≤◌, true, ◌&&◌, eqb, leb, List, [], ◌∷◌, ◌++◌, map, length, get_or, take, drop, Some, Ok, sym, refl, ap, ◌∙◌, suc-mul, arith, length-append, Option}
+use Rattle.std.proofs.Common.{◌≡◌, ℕ, suc, ◌+◌, ◌*◌, ◌/◌, ◌%◌, ◌<◌, ◌≤◌, true, ◌&&◌, eqb, leb, List, [], ◌∷◌, ◌++◌, map, length, get_or, take, drop, Some, Ok, sym, refl, ap, ◌∙◌, suc-mul, arith, length-append}
 use lib.ListN.{length-map}
 use Rattle.std.proofs.lemmas.List.{take_at, drop_at, append-nil}
 use Rattle.std.proofs.lemmas.Bool.{and_from, le-leb, eq-eqb}
@@ -8,12 +8,12 @@ use Rattle.book.specs.Kinds.{number_of, kind_with}
 use Rattle.book.specs.Model.{Model}
 use Rattle.book.specs.declared.kind.Kind.{Kind}
 use Rattle.book.specs.declared.kind.Kind.TheVariants.{CasingTop, Collar, Perforation, Marker, FluidLevel}
-use Rattle.book.specs.declared.place.Entry.{Entry}
 use Rattle.loaded.specs.declared.record.NodeRecord.{NodeRecord}
 use Rattle.loaded.specs.Reading.{read, count_in, records_in}
 use Rattle.loaded.specs.Tables.{places_of_all, within_limits, firsts_add_up, lawful_nodes}
-use Rattle.loaded.specs.Decode.{nodes_from, place_from, places_from, all_kinds, kinds_from, node_section, entry_section, pick_section, three_sections, decode}
+use Rattle.loaded.specs.Decode.{nodes_from, place_from, all_kinds, kinds_from, node_section, entry_section, pick_section, three_sections, decode}
 use Rattle.loaded.specs.Lawful.{short_bytes, section, node_bytes, kind_bytes, FirstsAddUp, LawfulFile}
+use Rattle.loaded.proofs.Cut.{joined_rows}
 use Rattle.loaded.proofs.Reading.{count_is, records_are}
 
 short_back : (n : ℕ) → n % 256 + n / 256 * 256 ≡ n
@@ -51,14 +51,6 @@ nodes_back [] = refl
 nodes_back (r ∷ rs) =
     ap (λ (first : ℕ). record { level = r.level; places = r.places; first = first } ∷ nodes_from (length rs) (flat_map node_bytes rs)) (short_back r.first)
     ∙ ap (λ (nodes : List NodeRecord). r ∷ nodes) (nodes_back rs)
-
-entries_back : (es : List (List ℕ)) → AllByRecursion (λ (e : List ℕ). length e ≡ 26) es → places_from (length es) (flat_map (λ e. e) es) ≡ map place_from es
-entries_back [] h = refl
-entries_back (e ∷ es) h =
-    let rest = flat_map (λ (e : List ℕ). e) es in
-    ap (λ (bytes : List ℕ). place_from bytes ∷ places_from (length es) (drop 26 (e ++ rest))) (take_at e rest 26 h.0)
-    ∙ ap (λ (bytes : List ℕ). place_from e ∷ places_from (length es) bytes) (drop_at e rest 26 h.0)
-    ∙ ap (λ (places : List (Option Entry)). place_from e ∷ places) (entries_back es h.1)
 
 kind_back : (k : Kind) → kind_with (number_of k) ≡ Some k
 kind_back CasingTop = refl
@@ -110,7 +102,7 @@ unfolding entry_section
 entries_laid es rest b sizes places total =
     let all = flat_map (λ (e : List ℕ). e) es in
     let size = length_joined (λ (e : List ℕ). e) 26 es sizes in
-    rw (count_laid 0 2048 (length es) (all ++ rest) (omega arith) b, eq-eqb (length es) places (sym total), records_laid (length es) 26 all rest size, entries_back es sizes)
+    rw (count_laid 0 2048 (length es) (all ++ rest) (omega arith) b, eq-eqb (length es) places (sym total), records_laid (length es) 26 all rest size, joined_rows 26 place_from es sizes)
 
 picks_laid : (ks : List Kind) (rest : List ℕ) → length ks ≤ 2048 → pick_section (section (map kind_bytes ks) ++ rest) ≡ Ok (read ks rest)
 unfolding pick_section

@@ -1,8 +1,8 @@
 -- What lawful tables hold, and what the questions find in them.
-use Rattle.std.specs.Prelude.{◌≡◌, ℕ, zero, suc, ◌+◌, ◌<◌, ◌≤◌, Bool, true, false, ◌&&◌, List, [], ◌∷◌, ◌++◌, map, length, get_or, take, drop, Some, None, Option, ◌==◌, ◌≢◌, nat_le, slice_index_or, refl}
+use Rattle.std.specs.Prelude.{◌≡◌, ℕ, zero, suc, ◌+◌, ◌<◌, ◌≤◌, Bool, true, ◌&&◌, List, [], ◌∷◌, map, length, get_or, take, drop, Some, None, Option, ◌==◌, nat_le, slice_index_or}
 use Rattle.std.proofs.Common.{sym, ap, ◌∙◌, inl, inr, arith, length-take, length-drop, get_or-take, get_or-drop}
 use Rattle.std.proofs.lemmas.List.{get_or-map, get_or_past, get_or_read, length-map}
-use Rattle.std.proofs.lemmas.Bool.{and_parts, and_from, and_left, and_right, cases_lt, le-leb, lt-leb, eq-eqb, ne_eqb}
+use Rattle.std.proofs.lemmas.Bool.{and_parts, and_from, cases_lt, le-leb, eq-eqb}
 use Rattle.std.proofs.lemmas.Bool.Decides.{nat_tests}
 use Rattle.book.specs.Model.{Node, Model, BookShape, no_node, node_count}
 use Rattle.book.specs.Model as model
@@ -49,9 +49,6 @@ at_place ps r i p h e w =
     get_or-take r.places (drop r.first ps) i None h
     ∙ get_or-drop r.first ps i None
     ∙ sym (get_or_read ps (r.first + i) p (omega arith) e None)
-
-pub past_place : (ps : List (Option Entry)) (r : NodeRecord) (i : ℕ) → r.places ≤ i → slice_index_or (node_of ps r).places i None ≡ None
-past_place ps r i h = get_or_past (node_of ps r).places i None (simp (length-take, length-drop) (omega arith))
 
 -- the kind that a look into the table finds
 pub kind_found : (ks : List Kind) (p : ℕ) (r : Option (Bor Kind)) → IsGetResult ks p p r → option_map (λ (x : Bor Kind). x.now) r ≡ slice_index_or (map Some ks) p None
@@ -124,20 +121,5 @@ shape rs ps ks a b c l t =
 pub limits_next : (r : NodeRecord) (rs : List NodeRecord) → r.level ≤ 7 → r.places ≤ 16 → within_limits (r ∷ rs) ≡ within_limits rs
 limits_next r rs a b = ap (λ (t : Bool). t && within_limits rs) (and_from (nat_le r.level 7) (nat_le r.places 16) (le-leb r.level 7 a) (le-leb r.places 16 b))
 
-pub limits_level : (r : NodeRecord) (rs : List NodeRecord) → 7 < r.level → within_limits (r ∷ rs) ≡ false
-limits_level r rs a = ap (λ (t : Bool). (t && nat_le r.places 16) && within_limits rs) (lt-leb r.level 7 a)
-
-pub limits_places : (r : NodeRecord) (rs : List NodeRecord) → 16 < r.places → within_limits (r ∷ rs) ≡ false
-limits_places r rs a = and_left (nat_le r.level 7 && nat_le r.places 16) (within_limits rs) (and_right (nat_le r.level 7) (nat_le r.places 16) (lt-leb r.places 16 a))
-
 pub firsts_next : (e : ℕ) (r : NodeRecord) (rs : List NodeRecord) → r.first ≡ e → firsts_add_up e (r ∷ rs) ≡ firsts_add_up (e + r.places) rs
 firsts_next e r rs h = ap (λ (t : Bool). t && firsts_add_up (e + r.places) rs) (eq-eqb r.first e h)
-
-pub firsts_stop : (e : ℕ) (r : NodeRecord) (rs : List NodeRecord) → (r.first ≢ e) → firsts_add_up e (r ∷ rs) ≡ false
-firsts_stop e r rs h = ap (λ (t : Bool). t && firsts_add_up (e + r.places) rs) (ne_eqb r.first e h)
-
-pub fits_push : (ps : List (Option Entry)) (p : Option Entry) → all_targets_fit ps ≡ true → target_fits p ≡ true → all_targets_fit (ps ++ p ∷ []) ≡ true
-fits_push [] p h f = and_from (target_fits p) true f refl
-fits_push (q ∷ ps) p h f =
-    let t = and_parts (target_fits q) (all_targets_fit ps) h in
-    and_from (target_fits q) (all_targets_fit (ps ++ p ∷ [])) t.0 (fits_push ps p t.1 f)

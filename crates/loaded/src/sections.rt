@@ -57,7 +57,7 @@ fn read_records<const SIZE: usize>(
     Ok(Section { records, rest })
 }
 
-#[tactic(auto, unfolding(crate::specs::Decode::node_section))]
+#[tactic(auto, unfolding(crate::specs::Decode::node_section), using(crate::proofs::Cut::whole_rows))]
 fn read_nodes(bytes: &[u8]) -> Result<Section<'_, NODE>, FileFault>
     ensures seen { seen (with_rest nodes_in) result ≡ node_section bytes.now }
     ensures lawful { IfOk result LawfulNodes }
