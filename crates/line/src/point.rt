@@ -13,13 +13,10 @@ use refusal::hands::TypingFault;
 fn read_point(easting: &[u8], northing: &[u8], level: &[u8]) -> Result<Point, TypingFault>
     ensures { answered typing_told result ≡ point_read easting.now northing.now level.now }
 {
-    let easting = read_level(easting)?;
-    let northing = read_level(northing)?;
-    let level = read_level(level)?;
     Ok(Point {
-        easting,
-        northing,
-        level,
+        easting: read_level(easting)?,
+        northing: read_level(northing)?,
+        level: read_level(level)?,
     })
 }
 
