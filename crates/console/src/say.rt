@@ -1,58 +1,57 @@
-//! What the console prints: one line for each answer.
+//! What the console says: one line for each answer.
 
-ghost use Rattle.std.specs.Prelude.{◌≡◌, IfOk, string_bytes};
-ghost use Rattle.refusal.specs.Told.{told};
-ghost use Rattle.refusal.specs.Line.{refused_line};
-ghost use Rattle.console.specs.Say.{accepted_line, kind_number, found_line, counts_line};
+ghost use Rattle.std.specs.Prelude.{Some};
+ghost use Rattle.console.specs.Say.{said_line};
 
 use book::kind::Kind;
-use browse::answer::{Counts, Found};
+use browse::answer::{Counts, Found, Row};
 use level::level::show::Hundredths;
 use refusal::refusal::Refusal;
-use std::alloc::{AllocError, Global};
+use std::fmt;
 
-pub fn accepted_line(heap: Global, picks: u16) -> Result<String, AllocError>
-    ensures { IfOk result (λ s. string_bytes s ≡ accepted_line picks) }
-{
-    format!(in heap; "accepted {picks} picks")
+/// An answer, to be printed as a line.
+#[derive(Clone, Copy, PartialEq, Eq, Debug)]
+pub enum Said {
+    /// The book was accepted and names so many picks.
+    Accepted { picks: u16 },
+    Opened,
+    /// What `next` found, and the kind of the pick that it told.
+    Next { found: Found, kind: Option<Kind> },
+    Report(Counts),
+    Closed,
+    Refused(Refusal),
 }
 
-fn kind_number(kind: Option<Kind>) -> u8
-    ensures { result ≡ kind_number kind }
-{
-    match kind {
-        Some(kind) => u8::from(kind),
-        None => 0,
-    }
-}
+impl fmt::Display for Said {
+    ghost output = { λ said. Some (said_line said) };
 
-/// What `next` found; `kind` is the kind of the pick that was told.
-pub fn found_line(heap: Global, found: Found, kind: Option<Kind>) -> Result<String, AllocError>
-    ensures { IfOk result (λ s. string_bytes s ≡ found_line found kind) }
-{
-    match found {
-        Found::Told { row, opened } => {
-            let pick = row.pick;
-            let distance = row.distance;
-            let number = kind_number(kind);
-            let top = Hundredths(row.top);
-            format!(in heap; "pick {pick} at {distance} kind {number} top {top} opened {opened}")
+    fn fmt<W: fmt::Write>(&self, f: &mut fmt::Formatter<W>) -> fmt::Result {
+        match *self {
+            Said::Accepted { picks } => write!(f, "accepted {picks} picks"),
+            Said::Opened => f.write_str("open"),
+            Said::Next {
+                found: Found { row: None, opened },
+                ..
+            } => write!(f, "none opened {opened}"),
+            Said::Next {
+                found: Found {
+                    row: Some(row),
+                    opened,
+                },
+                kind,
+            } => {
+                let Row {
+                    pick,
+                    distance,
+                    top,
+                } = row;
+                let number = kind.map_or(0, u8::from);
+                let top = Hundredths(top);
+                write!(f, "pick {pick} at {distance} kind {number} top {top} opened {opened}")
+            }
+            Said::Report(Counts { told, opened }) => write!(f, "told {told} opened {opened}"),
+            Said::Closed => f.write_str("closed"),
+            Said::Refused(refusal) => refusal.fmt(f),
         }
-        Found::Nothing { opened } => format!(in heap; "none opened {opened}"),
     }
-}
-
-pub fn counts_line(heap: Global, counts: Counts) -> Result<String, AllocError>
-    ensures { IfOk result (λ s. string_bytes s ≡ counts_line counts) }
-{
-    let told = counts.told;
-    let opened = counts.opened;
-    format!(in heap; "told {told} opened {opened}")
-}
-
-/// A refusal: its number, and the node and the entry at fault where it has them.
-pub fn refused_line(heap: Global, refusal: Refusal) -> Result<String, AllocError>
-    ensures { IfOk result (λ s. string_bytes s ≡ refused_line (told refusal)) }
-{
-    format!(in heap; "{refusal}")
 }

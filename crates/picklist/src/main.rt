@@ -5,8 +5,8 @@
 
 mod paper;
 
-use crate::paper::{book_line, pick_line};
-use anyhow::anyhow;
+use crate::paper::{Pick, Size};
+use anyhow::Context;
 use book::book::Book;
 use file::write_out::write_out;
 use geometry::bounds::Point;
@@ -25,10 +25,10 @@ fn print_leaf(rt: &HostRuntime, book: &Loaded, node: u16) -> anyhow::Result<()> 
     for index in 0..book.place_count(node) {
         match book.place(node, index) {
             Some(entry) => {
-                let line = pick_line(rt.alloc(), &entry, book.kind(entry.target))?;
-                println!(rt; "{line}")?;
+                let kind = book.kind(entry.target);
+                rt.println(Pick { entry, kind })?;
             }
-            None => println!(rt; "spoilt")?,
+            None => rt.println("spoilt")?,
         }
     }
     Ok(())
@@ -36,18 +36,11 @@ fn print_leaf(rt: &HostRuntime, book: &Loaded, node: u16) -> anyhow::Result<()> 
 
 // How many bytes are equal, place by place.
 fn equal_bytes(a: &[u8], b: &[u8]) -> usize {
-    let mut equal = 0usize;
-    for (x, y) in a.iter().zip(b.iter()) {
-        if *x == *y {
-            equal = equal.saturating_add(1);
-        }
-    }
-    equal
+    a.iter().zip(b.iter()).filter(|(x, y)| x == y).count()
 }
 
 fn print_book(rt: &HostRuntime, book: &Loaded, bytes: &[u8]) -> anyhow::Result<()> {
-    let line = book_line(rt.alloc(), book.node_count(), book.pick_limit())?;
-    println!(rt; "{line}")?;
+    rt.println(Size::of(book))?;
     for node in 0..book.node_count() {
         if book.level(node) == 0 {
             print_leaf(rt, book, node)?;
@@ -68,8 +61,8 @@ fn print_book(rt: &HostRuntime, book: &Loaded, bytes: &[u8]) -> anyhow::Result<(
 }
 
 fn print_size<B: Book>(rt: &HostRuntime, what: &str, book: &B) -> anyhow::Result<()> {
-    let line = book_line(rt.alloc(), book.node_count(), book.pick_limit())?;
-    println!(rt; "{what}: {line}")?;
+    let size = Size::of(book);
+    println!(rt; "{what}: {size}")?;
     Ok(())
 }
 
@@ -85,12 +78,12 @@ fn print_makes(rt: &HostRuntime, book: Loaded) -> anyhow::Result<()> {
         northing: 0,
         level: 0,
     };
-    let Ok(tally) = Tally::new(top, 17, 3_000) else {
-        return Err(anyhow!("the sample tally is refused"));
-    };
-    let Ok(offset) = Offset::new(east) else {
-        return Err(anyhow!("the sample offset is refused"));
-    };
+    let tally = Tally::new(top, 17, 3_000)
+        .ok()
+        .context("the sample tally is refused")?;
+    let offset = Offset::new(east)
+        .ok()
+        .context("the sample offset is refused")?;
     print_size(rt, "tally", &tally)?;
     let join = Join::new(book, tally);
     print_size(rt, "join", &join)?;
@@ -106,8 +99,7 @@ fn main(rt: HostRuntime) -> anyhow::Result<()> {
             print_makes(&rt, book)?;
         }
         Err(fault) => {
-            let number = Refusal::from(fault).number();
-            println!(rt; "refused {number}")?;
+            rt.println(Refusal::from(fault))?;
         }
     }
     Ok(())

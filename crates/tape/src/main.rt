@@ -14,10 +14,7 @@ fn main(rt: HostRuntime) -> io::Result<()> {
     for line in BufReader::new(rt.alloc(), rt.stdin())?.split(rt.alloc(), b'\n') {
         match read_line(&line?) {
             Ok(reading) => rt.println(reading)?,
-            Err(fault) => {
-                let number = Refusal::from(fault).number();
-                println!(rt; "refused {number}")?;
-            }
+            Err(fault) => rt.println(Refusal::from(fault))?,
         }
     }
     Ok(())
