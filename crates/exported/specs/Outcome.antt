@@ -18,6 +18,10 @@ abbrev pub fault_outcome : Fault → Outcome
 fault_outcome Memory = no_memory
 fault_outcome (Refused refusal) = outcome (Err (told refusal))
 
+abbrev pub result_outcome : Result ℕ Fault → Outcome
+result_outcome (Ok n) = outcome (Ok n)
+result_outcome (Err fault) = fault_outcome fault
+
 -- whether there is memory is not the caller's to know
 abbrev pub OrNoMemory : Outcome → Result ℕ Told → Type 0
 OrNoMemory r x = (r ≡ outcome x) ⊎ (r ≡ no_memory)

@@ -3,10 +3,11 @@
 ghost use Rattle.std.specs.Prelude.{length};
 ghost use Rattle.geometry.specs.Distance.{euclidean, manhattan, chessboard};
 ghost use Rattle.exported.specs.Input.{picks_in};
-ghost use Rattle.exported.specs.Outcome.{OrNoMemory};
+ghost use Rattle.exported.specs.Outcome.{OrNoMemory, result_outcome};
 ghost use Rattle.exported.specs.Rows.{rows_for, Tells};
 
 use crate::crossing::{Outcome, QueryPoint, ToldRow};
+use crate::fault::Fault;
 use crate::input::{Asked, asked_for, held_book};
 use crate::telling::tell_all;
 use geometry::chessboard::Chessboard;
@@ -20,13 +21,7 @@ use std::alloc::Global;
 pub extern "C" fn book_picks(heap: Global, file: &[u8]) -> Outcome
     ensures { OrNoMemory result (picks_in file.now) }
 {
-    match held_book(heap, file) {
-        Ok(held) => Outcome {
-            refusal: 0,
-            count: held.picks as usize,
-        },
-        Err(fault) => fault.outcome(),
-    }
+    Outcome::from(held_book(heap, file).map(|held| held.picks as usize))
 }
 
 fn nearest<M: Measure + Copy>(
@@ -36,17 +31,11 @@ fn nearest<M: Measure + Copy>(
     points: &[QueryPoint],
     each: usize,
     rows: &mut [ToldRow],
-) -> Outcome
-    ensures { Tells (rows_for (M.Measure.distance measure) file.now points.now each (length rows.old)) result rows.old rows.new }
+) -> Result<usize, Fault>
+    ensures { Tells (rows_for (M.Measure.distance measure) file.now points.now each (length rows.old)) (result_outcome result) rows.old rows.new }
 {
-    match asked_for(heap, file, points) {
-        Ok(asked) => {
-            let Asked { book, queries } = asked;
-            let count = tell_all(book, measure, &queries, each, rows);
-            Outcome { refusal: 0, count }
-        }
-        Err(fault) => fault.outcome(),
-    }
+    let Asked { held, queries } = asked_for(heap, file, points)?;
+    Ok(tell_all(held, measure, &queries, each, rows))
 }
 
 /// Of each query, one after another, the first so many rows of the ranking by the Euclidean measure, as many as there are
@@ -61,7 +50,7 @@ pub extern "C" fn nearest_euclidean(
 ) -> Outcome
     ensures { Tells (rows_for euclidean file.now points.now each (length rows.old)) result rows.old rows.new }
 {
-    nearest(heap, file, Euclidean, points, each, rows)
+    Outcome::from(nearest(heap, file, Euclidean, points, each, rows))
 }
 
 /// Of each query, one after another, the first so many rows of the ranking by the Manhattan measure, as many as there are
@@ -76,7 +65,7 @@ pub extern "C" fn nearest_manhattan(
 ) -> Outcome
     ensures { Tells (rows_for manhattan file.now points.now each (length rows.old)) result rows.old rows.new }
 {
-    nearest(heap, file, Manhattan, points, each, rows)
+    Outcome::from(nearest(heap, file, Manhattan, points, each, rows))
 }
 
 /// Of each query, one after another, the first so many rows of the ranking by the Chessboard measure, as many as there are
@@ -91,5 +80,5 @@ pub extern "C" fn nearest_chessboard(
 ) -> Outcome
     ensures { Tells (rows_for chessboard file.now points.now each (length rows.old)) result rows.old rows.new }
 {
-    nearest(heap, file, Chessboard, points, each, rows)
+    Outcome::from(nearest(heap, file, Chessboard, points, each, rows))
 }

@@ -7,10 +7,11 @@ ghost use Rattle.search.specs.Answer.{row_in};
 ghost use Rattle.browse.specs.Browse.{opening, next_reply};
 ghost use Rattle.browse.specs.Desk.{standing};
 ghost use Rattle.browse.specs.Law.{ranking, answer_in};
-ghost use Rattle.exported.specs.Rows.{told_row, laid, first_rows};
+ghost use Rattle.exported.specs.Rows.{laid, first_rows};
 ghost use Rattle.exported.specs.Following.{Follows};
 
 use crate::crossing::ToldRow;
+use crate::input::Held;
 use browse::answer::{Found, Row};
 use browse::browse::Browse;
 use geometry::bounds::Bounds;
@@ -18,23 +19,10 @@ use geometry::measure::Measure;
 use loaded::loaded::Loaded;
 use refusal::hands::TreeFault;
 
-fn told_row(row: Row) -> ToldRow
-    ensures { result ≡ told_row row }
-{
-    ToldRow {
-        distance: row.distance,
-        top: row.top,
-        pick: row.pick,
-    }
-}
-
 fn row_found(found: Result<Found, TreeFault>) -> Option<Row>
     ensures { result ≡ row_in (answer_in (next_reply found)) }
 {
-    match found {
-        Ok(Found::Told { row, .. }) => Some(row),
-        _ => None,
-    }
+    found.ok()?.row
 }
 
 /// The next row of the ranking, if one is left.
@@ -53,15 +41,13 @@ fn tell<M: Measure>(browse: &mut Browse<Loaded, M>, rows: &mut [ToldRow]) -> usi
     ensures count { result ≡ length (take (length rows.old) (ranking (loaded_model browse.old.book) (M.Measure.distance browse.old.measure browse.old.query))) }
     ensures rows { rows.new ≡ laid (take (length rows.old) (ranking (loaded_model browse.old.book) (M.Measure.distance browse.old.measure browse.old.query))) rows.old }
 {
-    let mut told = 0;
-    while told < rows.len() {
+    for (told, place) in rows.iter_mut().enumerate() {
         let Some(row) = next_row(browse) else {
-            break;
+            return told;
         };
-        rows[told] = told_row(row);
-        told += 1;
+        *place = ToldRow::from(row);
     }
-    told
+    rows.len()
 }
 
 /// Opens a browse and tells as many rows as the slice has places, or all there are. The book comes back.
@@ -84,16 +70,16 @@ fn first_rows<M: Measure + Copy>(
 
 /// The first rows of each query, one after another, as many as the slice has places for; how many.
 pub(crate) fn tell_all<M: Measure + Copy>(
-    mut book: Loaded,
+    held: Held,
     measure: M,
     queries: &[Bounds],
     each: usize,
     rows: &mut [ToldRow],
 ) -> usize
-    requires { Accepted (loaded_model book) }
-    ensures count { result ≡ length (take (length rows.old) (first_rows (M.Measure.distance measure) (loaded_model book) each queries.now)) }
-    ensures rows { rows.new ≡ laid (take (length rows.old) (first_rows (M.Measure.distance measure) (loaded_model book) each queries.now)) rows.old }
+    ensures count { result ≡ length (take (length rows.old) (first_rows (M.Measure.distance measure) (loaded_model held.book) each queries.now)) }
+    ensures rows { rows.new ≡ laid (take (length rows.old) (first_rows (M.Measure.distance measure) (loaded_model held.book) each queries.now)) rows.old }
 {
+    let Held { mut book, .. } = held;
     let mut told = 0;
     for query in queries {
         let end = told + each.min(rows.len() - told);
