@@ -5,11 +5,9 @@ use Rattle.geometry.specs.Bounds.{bounds_of}
 use Rattle.geometry.specs.declared.bounds.Point.{Point}
 use Rattle.geometry.specs.declared.bounds.Bounds.{Bounds}
 use Rattle.geometry.specs.declared.choice.Choice.{Choice}
-use Rattle.console.specs.Command.{command_of}
+use Rattle.console.specs.Command.{Typed, command_of}
 use Rattle.console.specs.declared.command.Command.{Command}
 use Rattle.console.specs.declared.command.Command.TheVariants.{Open, Next, Report, Close}
-use Rattle.console.specs.declared.state.Act.{Act}
-use Rattle.console.specs.declared.state.Act.TheVariants.{Open as DoOpen, Next as DoNext, Report as DoReport, Close as DoClose}
 use Rattle.console.specs.declared.state.State.{State}
 use Rattle.console.specs.declared.state.State.TheVariants.{NoBook, Ready, Open as IsOpen}
 
@@ -18,24 +16,28 @@ abbrev pub query_at : Option Point → Result Bounds Told
 query_at (Some p) = bounds_of p p
 query_at None = Err (plain 27)
 
+-- what is to be done with the book or the browse
+abbrev pub Act : Type 0
+Act = Command Bounds
+
 -- opening asks for a browse at this query, if it is a box
 abbrev opened : Choice → Result Bounds Told → Result Act Told
-opened measure (Ok query) = Ok (DoOpen measure query)
+opened measure (Ok query) = Ok (Open measure query)
 opened measure (Err refusal) = Err refusal
 
 abbrev pub not_now : Result Act Told
 not_now = Err (plain 26)
 
 -- opening needs a book that is ready, everything else an open browse
-abbrev pub answer_in : State → Command → Result Act Told
+abbrev pub answer_in : State → Typed → Result Act Told
 answer_in Ready (Open measure point) = opened measure (query_at point)
 answer_in Ready (Next limit) = not_now
 answer_in Ready Report = not_now
 answer_in Ready Close = not_now
 answer_in IsOpen (Open measure point) = not_now
-answer_in IsOpen (Next limit) = Ok (DoNext limit)
-answer_in IsOpen Report = Ok DoReport
-answer_in IsOpen Close = Ok DoClose
+answer_in IsOpen (Next limit) = Ok (Next limit)
+answer_in IsOpen Report = Ok Report
+answer_in IsOpen Close = Ok Close
 answer_in NoBook command = not_now
 
 abbrev open_if : Result Bounds Told → State
@@ -43,7 +45,7 @@ open_if (Ok query) = IsOpen
 open_if (Err refusal) = Ready
 
 -- only opening and closing change the state, and only where they are not refused
-abbrev pub state_after : State → Command → State
+abbrev pub state_after : State → Typed → State
 state_after Ready (Open measure point) = open_if (query_at point)
 state_after Ready (Next limit) = Ready
 state_after Ready Report = Ready
@@ -59,11 +61,11 @@ abbrev pub state_at : Bool → State
 state_at true = Ready
 state_at false = NoBook
 
-abbrev answered_to : State → Result Command Told → Result Act Told
+abbrev answered_to : State → Result Typed Told → Result Act Told
 answered_to state (Ok command) = answer_in state command
 answered_to state (Err refusal) = Err refusal
 
-abbrev after_to : State → Result Command Told → State
+abbrev after_to : State → Result Typed Told → State
 after_to state (Ok command) = state_after state command
 after_to state (Err refusal) = state
 

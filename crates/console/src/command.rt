@@ -15,23 +15,22 @@ use refusal::hands::TypingFault;
 /// The longest line that is read as a command.
 const MOST_BYTES: usize = 80;
 
-#[derive(Clone, Copy)]
-pub enum Command {
-    /// `point` is none where one of its three texts is no level: whether that matters depends on the state.
-    Open {
-        measure: Choice,
-        point: Option<Point>,
-    },
-    Next {
-        limit: u64,
-    },
+/// What can be asked, with a query of type `Q`.
+#[derive(Clone, Copy, PartialEq, Eq, Debug)]
+pub enum Command<Q> {
+    Open { measure: Choice, query: Q },
+    Next { limit: u64 },
     Report,
     Close,
 }
 
+/// A command as it is typed. Its query is none where one of the three texts is no level: whether that matters depends on
+/// the state.
+pub type Typed = Command<Option<Point>>;
+
 /// The command that a line is.
 #[tactic(auto, unfolding(crate::specs::Command::command_of))]
-pub fn typed_command(line: &[u8]) -> Result<Command, TypingFault>
+pub fn typed_command(line: &[u8]) -> Result<Typed, TypingFault>
     ensures { answered typing_told result ≡ command_of line.now }
 {
     let (word, rest) = first_word(line);
@@ -48,27 +47,25 @@ pub fn typed_command(line: &[u8]) -> Result<Command, TypingFault>
 }
 
 // A command that takes nothing.
-fn alone(command: Command, rest: &[u8]) -> Result<Command, TypingFault>
+fn alone(command: Typed, rest: &[u8]) -> Result<Typed, TypingFault>
     ensures { answered typing_told result ≡ bare command rest.now }
 {
-    if rest.len() == 0 {
+    if rest.is_empty() {
         Ok(command)
     } else {
         Err(TypingFault::Command)
     }
 }
 
-fn typed_next(rest: &[u8]) -> Result<Command, TypingFault>
+fn typed_next(rest: &[u8]) -> Result<Typed, TypingFault>
     ensures { answered typing_told result ≡ next_typed rest.now }
 {
-    match typed_limit(rest) {
-        Some(limit) => Ok(Command::Next { limit }),
-        None => Err(TypingFault::Command),
-    }
+    let limit = typed_limit(rest).ok_or(TypingFault::Command)?;
+    Ok(Command::Next { limit })
 }
 
 #[tactic(auto, unfolding(crate::specs::Command::open_typed))]
-fn typed_open(rest: &[u8]) -> Result<Command, TypingFault>
+fn typed_open(rest: &[u8]) -> Result<Typed, TypingFault>
     ensures { answered typing_told result ≡ open_typed rest.now }
 {
     let (name, levels) = first_word(rest);
@@ -83,18 +80,12 @@ fn typed_open(rest: &[u8]) -> Result<Command, TypingFault>
     }
 }
 
-fn open_by(measure: Choice, levels: &[u8]) -> Result<Command, TypingFault>
+fn open_by(measure: Choice, levels: &[u8]) -> Result<Typed, TypingFault>
     ensures { answered typing_told result ≡ pointed measure (point_typed levels.now) }
 {
-    match typed_point(levels) {
-        Ok(point) => Ok(Command::Open {
-            measure,
-            point: Some(point),
-        }),
-        Err(TypingFault::NotALevel) => Ok(Command::Open {
-            measure,
-            point: None,
-        }),
-        Err(fault) => Err(fault),
-    }
+    let query = match typed_point(levels) {
+        Err(TypingFault::NotALevel) => None,
+        point => Some(point?),
+    };
+    Ok(Command::Open { measure, query })
 }

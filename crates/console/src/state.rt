@@ -4,9 +4,8 @@ ghost use Rattle.std.specs.Prelude.{◌≡◌};
 ghost use Rattle.refusal.specs.Told.{answered, typing_told};
 ghost use Rattle.console.specs.State.{answer_in, state_after, state_at, line_answer, line_after};
 
-use crate::command::{Command, typed_command};
+use crate::command::{Command, Typed, typed_command};
 use geometry::bounds::Bounds;
-use geometry::choice::Choice;
 use refusal::hands::TypingFault;
 
 #[derive(Clone, Copy, PartialEq, Eq, Debug)]
@@ -16,14 +15,8 @@ pub enum State {
     Open,
 }
 
-/// What is to be done with the book or the browse.
-#[derive(Clone, Copy)]
-pub enum Act {
-    Open { measure: Choice, query: Bounds },
-    Next { limit: u64 },
-    Report,
-    Close,
-}
+/// What is to be done with the book or the browse: a command whose query is a box.
+pub type Act = Command<Bounds>;
 
 #[derive(Clone, Copy)]
 pub struct Console {
@@ -53,21 +46,21 @@ impl Console {
     }
 
     /// Takes a command, or refuses it: first by the state, then for what it asks.
-    pub fn take(&mut self, command: Command) -> Result<Act, TypingFault>
+    pub fn take(&mut self, command: Typed) -> Result<Act, TypingFault>
         ensures answer { answered typing_told result ≡ answer_in self.old.state command }
         ensures state { self.new.state ≡ state_after self.old.state command }
     {
         match (self.state, command) {
-            (State::Ready, Command::Open { measure, point }) => {
-                let query = Bounds::at(point.ok_or(TypingFault::NotALevel)?)?;
+            (State::Ready, Command::Open { measure, query }) => {
+                let query = Bounds::at(query.ok_or(TypingFault::NotALevel)?)?;
                 self.state = State::Open;
-                Ok(Act::Open { measure, query })
+                Ok(Command::Open { measure, query })
             }
-            (State::Open, Command::Next { limit }) => Ok(Act::Next { limit }),
-            (State::Open, Command::Report) => Ok(Act::Report),
+            (State::Open, Command::Next { limit }) => Ok(Command::Next { limit }),
+            (State::Open, Command::Report) => Ok(Command::Report),
             (State::Open, Command::Close) => {
                 self.state = State::Ready;
-                Ok(Act::Close)
+                Ok(Command::Close)
             }
             (_, _) => Err(TypingFault::State),
         }

@@ -3,6 +3,7 @@
 use book::book::Book;
 use browse::browse::Browse;
 use console::say::Said;
+use console::command::Command;
 use console::state::Act;
 use geometry::choice::Choice;
 use loaded::loaded::Loaded;
@@ -46,19 +47,19 @@ fn next(mut browse: Browse<Loaded, Choice>, limit: u64) -> Shown {
 
 fn act_on_browse(browse: Browse<Loaded, Choice>, act: Act) -> Shown {
     match act {
-        Act::Next { limit } => next(browse, limit),
-        Act::Report => Shown {
+        Command::Next { limit } => next(browse, limit),
+        Command::Report => Shown {
             said: Said::Report(browse.report()),
             held: Held::Browse(browse),
         },
-        Act::Close => {
+        Command::Close => {
             let (book, _) = browse.close();
             Shown {
                 held: Held::Book(book),
                 said: Said::Closed,
             }
         }
-        Act::Open { .. } => not_now(Held::Browse(browse)),
+        Command::Open { .. } => not_now(Held::Browse(browse)),
     }
 }
 
@@ -68,7 +69,7 @@ impl Held {
         match self {
             Held::Browse(browse) => act_on_browse(browse, act),
             Held::Book(book) => match act {
-                Act::Open { measure, query } => Shown {
+                Command::Open { measure, query } => Shown {
                     held: Held::Browse(Browse::open(book, measure, query)),
                     said: Said::Opened,
                 },
