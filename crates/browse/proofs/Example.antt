@@ -10,7 +10,6 @@ use Rattle.book.specs.declared.kind.Kind.TheVariants.{CasingTop, Perforation, Ma
 use Rattle.book.specs.declared.place.Entry.{Entry}
 use Rattle.book.specs.Model.{Model, BookShape}
 use Rattle.book_check.specs.Below.{count_below}
-use Rattle.book.specs.Totals.{total_places}
 use Rattle.book_check.specs.Names.{names, named_before, is_named, picks_named}
 use Rattle.book_check.specs.Sound.{sticks_out, sound_target}
 use Rattle.book_check.specs.Checked.{place_fault, node_fault, tree_fault, checked}

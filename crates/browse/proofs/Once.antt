@@ -10,7 +10,6 @@ use Rattle.book.specs.Model as book
 use Rattle.book.specs.declared.place.Entry.{Entry}
 use Rattle.book_check.specs.declared.target.Target.TheVariants.{Pick as PickTarget, Child}
 use Rattle.book_check.specs.Targets.{target_at, root_of}
-use Rattle.book.specs.Totals.{total_places}
 use Rattle.book.proofs.Places.{places_summed}
 use Rattle.book_check.specs.Accepted.{Accepted, Parent, Stands}
 use Rattle.search.specs.Tree.{Tree, below, nodes}

@@ -1,5 +1,5 @@
 -- What a browse answers, for every book, broken ones too.
-use Rattle.std.specs.Prelude.{ℕ, ◌-◌, cond, List, [], ◌∷◌, Ok, Err, Result, nat_le}
+use Rattle.std.specs.Prelude.{ℕ, ◌-◌, cond, List, [], ◌∷◌, Ok, Err, Some, None, Option, Result, nat_le}
 use Rattle.refusal.specs.Told.{Told, at_node, tree_told}
 use Rattle.refusal.specs.declared.hands.TreeFault.{TreeFault}
 use Rattle.book.specs.Model.{Model, node_count}
@@ -12,7 +12,6 @@ use Rattle.search.specs.Search.{Standing, start, tell_first, open_first}
 use Rattle.search.specs.Turns.{answers_from, standing_after}
 use Rattle.browse.specs.declared.answer.Row.{Row}
 use Rattle.browse.specs.declared.answer.Found.{Found}
-use Rattle.browse.specs.declared.answer.Found.TheVariants.{Told as ToldRow, Nothing}
 use Rattle.browse.specs.declared.answer.Counts.{Counts}
 use Rattle.browse.specs.declared.answer.Answer.{Answer}
 use Rattle.browse.specs.declared.answer.Answer.TheVariants.{Next as Asked, Report as Reported}
@@ -72,9 +71,12 @@ abbrev pub stands_after : Model → Far → Standing Thing → List Turn → Sta
 stands_after m far = standing_after (turned m far)
 
 -- the code's answers as replies
+abbrev pub row_reply : Option Row → ℕ → heard.Answer Row
+row_reply (Some r) o = heard.told r o
+row_reply None o = heard.none o
+
 abbrev pub found_reply : Found → heard.Answer Row
-found_reply (ToldRow r o) = heard.told r o
-found_reply (Nothing o) = heard.none o
+found_reply f = row_reply f.row f.opened
 
 abbrev pub next_reply : Result Found TreeFault → Reply
 next_reply (Ok f) = Ok (found_reply f)

@@ -1,5 +1,10 @@
 //! What a browse answers.
 
+ghost use Rattle.std.specs.Prelude.{◌≡◌};
+ghost use Rattle.browse.specs.Browse.{row};
+ghost use Rattle.browse.specs.Desk.{thing_of};
+
+use crate::waiting::Waiting;
 use refusal::hands::TreeFault;
 
 /// A pick that is told: how far it is, and its top, which is the high end of level of its box.
@@ -10,11 +15,23 @@ pub struct Row {
     pub top: i32,
 }
 
-/// What `next` finds. Both carry the count of nodes opened so far.
+impl From<Waiting> for Row {
+    ghost from_gives = { λ pick told. told ≡ row (thing_of pick) };
+
+    fn from(pick: Waiting) -> Row {
+        Row {
+            pick: pick.number,
+            distance: pick.distance,
+            top: pick.top,
+        }
+    }
+}
+
+/// What `next` finds: the row that is told, if there is one, and how many nodes are opened so far.
 #[derive(Clone, Copy, PartialEq, Eq, Debug)]
-pub enum Found {
-    Told { row: Row, opened: u16 },
-    Nothing { opened: u16 },
+pub struct Found {
+    pub row: Option<Row>,
+    pub opened: u16,
 }
 
 /// How many rows were told and how many nodes opened.

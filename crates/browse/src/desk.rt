@@ -8,6 +8,7 @@ use crate::waiting::Waiting;
 
 mod moves;
 
+// A form of the project: a plain table of records and a count, lent to the queue; nothing on a heap.
 /// What waits, as a heap in the first `used` places of the table, and the counts. A node brings at most 16 entries and
 /// at most 512 nodes are opened, so no count runs over.
 #[derive(Drop)]

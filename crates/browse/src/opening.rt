@@ -8,11 +8,11 @@ ghost use Rattle.browse.specs.Desk.{thing_of, one_of, kids_of, standing};
 ghost use Rattle.browse.specs.Opening.{sound_kid, sound_kids, kids_to_open};
 
 use crate::desk::Desk;
-use crate::kids::Kids;
-use crate::waiting::{Class, Waiting};
+use crate::view::View;
+use crate::waiting::{Class, Kids, Waiting};
+use arrayvec::ArrayVec;
 use book::book::Book;
 use book::place::Entry;
-use geometry::bounds::Bounds;
 use geometry::measure::Measure;
 
 /// So many can wait.
@@ -35,69 +35,51 @@ fn right_target<B: Book>(book: &B, level: u8, target: u16) -> bool
     }
 }
 
-/// What the place names, unless it is spoilt, nearer than its node, or names no right target.
-fn sound_kid<B: Book, M: Measure>(
-    book: &B,
-    measure: &M,
-    query: &Bounds,
-    level: u8,
-    nearest: u64,
-    place: Option<Entry>,
-) -> Option<Waiting>
-    ensures { one_of result ≡ sound_kid (B.Book.model book.now) (M.Measure.distance measure.now query.now) level nearest place }
-{
-    let Some(entry) = place else {
-        return None;
-    };
-    let distance = measure.distance(query, &entry.bounds);
-    if distance < nearest || !right_target(book, level, entry.target) {
-        return None;
+impl<B: Book, M: Measure> View<B, M> {
+    /// What the place names, unless it is spoilt, nearer than its node, or names no right target.
+    fn sound_kid(&self, level: u8, nearest: u64, place: Option<Entry>) -> Option<Waiting>
+        ensures { one_of result ≡ sound_kid (B.Book.model self.now.book) (M.Measure.distance self.now.measure self.now.query) level nearest place }
+    {
+        let entry = place?;
+        let distance = self.measure.distance(&self.query, &entry.bounds);
+        if distance < nearest || !right_target(&self.book, level, entry.target) {
+            return None;
+        }
+        Some(Waiting {
+            distance,
+            class: class_at(level),
+            number: entry.target,
+            arrival: 0,
+            top: entry.bounds.level.high,
+        })
     }
-    Some(Waiting {
-        distance,
-        class: class_at(level),
-        number: entry.target,
-        arrival: 0,
-        top: entry.bounds.level.high,
-    })
-}
 
-/// What the node's entries name, if all its places are sound.
-fn sound_kids<B: Book, M: Measure>(
-    book: &B,
-    measure: &M,
-    query: &Bounds,
-    node: u16,
-    nearest: u64,
-) -> Option<Kids>
-    ensures { kids_of result ≡ sound_kids (B.Book.model book.now) (M.Measure.distance measure.now query.now) (level_of (B.Book.model book.now) node) nearest (places_of (B.Book.model book.now) node) }
-{
-    let level = book.level(node);
-    let mut kids = Kids::none();
-    for index in 0..book.place_count(node) {
-        let place = book.place(node, index);
-        let kid = sound_kid(book, measure, query, level, nearest, place)?;
-        kids.add(kid);
+    /// What the node's entries name, if all its places are sound.
+    fn sound_kids(&self, node: u16, nearest: u64) -> Option<Kids>
+        ensures { kids_of result ≡ sound_kids (B.Book.model self.now.book) (M.Measure.distance self.now.measure self.now.query) (level_of (B.Book.model self.now.book) node) nearest (places_of (B.Book.model self.now.book) node) }
+    {
+        let level = self.book.level(node);
+        let mut kids = ArrayVec::new();
+        for index in 0..self.book.place_count(node) {
+            let place = self.book.place(node, index);
+            let kid = self.sound_kid(level, nearest, place)?;
+            kids.push(kid);
+        }
+        Some(kids)
     }
-    Some(kids)
-}
 
-/// The kids of the node that waits first, if it can be opened.
-pub(crate) fn kids_to_open<B: Book, M: Measure>(
-    book: &B,
-    measure: &M,
-    query: &Bounds,
-    desk: &Desk,
-    first: Waiting,
-) -> Option<Kids>
-    ensures { kids_of result ≡ kids_to_open (B.Book.model book.now) (M.Measure.distance measure.now query.now) (standing desk.now) (thing_of first) }
-{
-    if desk.opened() >= book.node_count() {
-        return None;
+    /// The kids of the node that waits first, if it can be opened.
+    #[tactic(auto, using(crate::specs::Waitings::length_waiting))]
+    pub(crate) fn kids_to_open(&self, desk: &Desk, first: Waiting) -> Option<Kids>
+        ensures { kids_of result ≡ kids_to_open (B.Book.model self.now.book) (M.Measure.distance self.now.measure self.now.query) (standing desk.now) (thing_of first) }
+    {
+        if desk.opened() >= self.book.node_count() {
+            return None;
+        }
+        // The node itself still waits.
+        if desk.waiting() + self.book.place_count(first.number) as usize > MOST_WAITING + 1 {
+            return None;
+        }
+        self.sound_kids(first.number, first.distance)
     }
-    // The node itself still waits.
-    if desk.waiting() + book.place_count(first.number) as usize > MOST_WAITING + 1 {
-        return None;
-    }
-    sound_kids(book, measure, query, first.number, first.distance)
 }

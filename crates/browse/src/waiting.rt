@@ -1,21 +1,22 @@
 //! What waits in a browse.
 
 ghost use Rattle.std.specs.Prelude.{◌≡◌};
-ghost use Rattle.browse.specs.Thing.{rank as rank_of};
 ghost use Rattle.browse.specs.Sooner.{sooner, top_number};
 ghost use Rattle.browse.specs.Waitings.{sooner_total};
 
+use arrayvec::ArrayVec;
 use queue::order::Ordered;
 
 /// Whether a waiting thing is to be opened or told. At equal distance nodes come first, since a nearer pick may be below.
-#[derive(Clone, Copy, PartialEq, Eq, Debug)]
+#[derive(Clone, Copy, PartialEq, Eq, PartialOrd, Ord, Debug, Default)]
 pub enum Class {
+    #[default]
     Node,
     Pick,
 }
 
-/// A node or a pick that waits. `arrival` counts those that came before it.
-#[derive(Clone, Copy)]
+/// A node or a pick that waits. `arrival` counts those that came before it. The default stands where nothing waits yet.
+#[derive(Clone, Copy, Default)]
 pub struct Waiting {
     pub distance: u64,
     pub class: Class,
@@ -24,23 +25,8 @@ pub struct Waiting {
     pub top: i32,
 }
 
-/// Stands where nothing waits yet.
-pub(crate) const BLANK: Waiting = Waiting {
-    distance: 0,
-    class: Class::Node,
-    number: 0,
-    arrival: 0,
-    top: 0,
-};
-
-fn rank(class: Class) -> u8
-    ensures { result ≡ rank_of class }
-{
-    match class {
-        Class::Node => 0,
-        Class::Pick => 1,
-    }
-}
+/// What a node's entries name, lower place first. A node has at most 16 places.
+pub(crate) type Kids = ArrayVec<Waiting, 16>;
 
 fn top_number(top: i32) -> u64
     ensures { result ≡ top_number top }
@@ -49,6 +35,16 @@ fn top_number(top: i32) -> u64
         top as u64 * 2
     } else {
         (-1 - top) as u64 * 2 + 1
+    }
+}
+
+impl Waiting {
+    /// What decides at equal distance: nodes before picks, then the number, then the arrival. The top only tells apart what
+    /// differs in nothing else.
+    fn key(&self) -> (Class, u16, u32, u64)
+        ensures { result ≡ (self.now.class, self.now.number, self.now.arrival, top_number self.now.top) }
+    {
+        (self.class, self.number, self.arrival, top_number(self.top))
     }
 }
 
@@ -62,16 +58,6 @@ impl Ordered for Waiting {
         if self.distance != other.distance {
             return self.distance < other.distance;
         }
-        let (mine, theirs) = (rank(self.class), rank(other.class));
-        if mine != theirs {
-            return mine < theirs;
-        }
-        if self.number != other.number {
-            return self.number < other.number;
-        }
-        if self.arrival != other.arrival {
-            return self.arrival < other.arrival;
-        }
-        top_number(self.top) < top_number(other.top)
+        self.key() < other.key()
     }
 }

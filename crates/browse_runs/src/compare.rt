@@ -32,7 +32,7 @@ impl Agreed {
 
     fn note(&mut self, answer: Answer) {
         match answer {
-            Answer::Next(Ok(Found::Told { .. })) => {
+            Answer::Next(Ok(Found { row: Some(_), .. })) => {
                 self.rows = self.rows.saturating_add(1);
                 self.counts = self.counts.saturating_add(1);
             }

@@ -142,14 +142,15 @@ impl Scan {
                     distance: ranked.distance,
                     top: ranked.top,
                 };
-                return Found::Told {
-                    row,
+                return Found {
+                    row: Some(row),
                     opened: self.opened(),
                 };
             }
         }
         self.reached(limit);
-        Found::Nothing {
+        Found {
+            row: None,
             opened: self.opened(),
         }
     }

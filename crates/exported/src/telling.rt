@@ -27,19 +27,19 @@ fn row_found(found: Result<Found, TreeFault>) -> Option<Row>
 
 /// The next row of the ranking, if one is left.
 fn next_row<M: Measure>(browse: &mut Browse<Loaded, M>) -> Option<Row>
-    ensures parts { (browse.new.book ≡ browse.old.book) × (browse.new.measure ≡ browse.old.measure) × (browse.new.query ≡ browse.old.query) }
-    ensures follows { Follows (loaded_model browse.old.book) (M.Measure.distance browse.old.measure browse.old.query) (standing browse.old.desk) result (standing browse.new.desk) }
+    ensures parts { browse.new.view ≡ browse.old.view }
+    ensures follows { Follows (loaded_model browse.old.view.book) (M.Measure.distance browse.old.view.measure browse.old.view.query) (standing browse.old.desk) result (standing browse.new.desk) }
 {
     row_found(browse.next(u64::MAX))
 }
 
 /// Tells as many rows as the slice has places, or all there are; how many.
 fn tell<M: Measure>(browse: &mut Browse<Loaded, M>, rows: &mut [ToldRow]) -> usize
-    requires accepted { Accepted (loaded_model browse.old.book) }
-    requires opening { standing browse.old.desk ≡ opening (loaded_model browse.old.book) }
-    ensures book { browse.new.book ≡ browse.old.book }
-    ensures count { result ≡ length (take (length rows.old) (ranking (loaded_model browse.old.book) (M.Measure.distance browse.old.measure browse.old.query))) }
-    ensures rows { rows.new ≡ laid (take (length rows.old) (ranking (loaded_model browse.old.book) (M.Measure.distance browse.old.measure browse.old.query))) rows.old }
+    requires accepted { Accepted (loaded_model browse.old.view.book) }
+    requires opening { standing browse.old.desk ≡ opening (loaded_model browse.old.view.book) }
+    ensures book { browse.new.view.book ≡ browse.old.view.book }
+    ensures count { result ≡ length (take (length rows.old) (ranking (loaded_model browse.old.view.book) (M.Measure.distance browse.old.view.measure browse.old.view.query))) }
+    ensures rows { rows.new ≡ laid (take (length rows.old) (ranking (loaded_model browse.old.view.book) (M.Measure.distance browse.old.view.measure browse.old.view.query))) rows.old }
 {
     for (told, place) in rows.iter_mut().enumerate() {
         let Some(row) = next_row(browse) else {

@@ -5,8 +5,7 @@ ghost use Rattle.search.specs.Law.{first_within};
 ghost use Rattle.browse.specs.Desk.{thing_of, one_of, kids_held, standing, node_at0, without_first, with_one, opened_to};
 
 use super::Desk;
-use crate::kids::Kids;
-use crate::waiting::{BLANK, Class, Waiting};
+use crate::waiting::{Class, Kids, Waiting};
 use queue::heap;
 
 impl Desk {
@@ -14,7 +13,7 @@ impl Desk {
     pub(crate) fn new(root: u16) -> Desk
         ensures { standing result ≡ start (node_at0 root) }
     {
-        let mut table = [BLANK; 2048];
+        let mut table = [Waiting::default(); 2048];
         table[0] = Waiting {
             distance: 0,
             class: Class::Node,
@@ -31,6 +30,7 @@ impl Desk {
         }
     }
 
+    #[tactic(auto, using(crate::specs::Waitings::length_waiting))]
     pub(crate) fn waiting(&self) -> usize
         ensures { result ≡ length (standing self.now).waiting }
     {
@@ -53,12 +53,7 @@ impl Desk {
     pub(crate) fn first_within(&self, limit: u64) -> Option<Waiting>
         ensures { one_of result ≡ first_within (λ x. x.distance) limit (standing self.now).waiting }
     {
-        let first = heap::first(&self.table, self.used)?;
-        if first.distance <= limit {
-            Some(first)
-        } else {
-            None
-        }
+        heap::first(&self.table, self.used).filter(|first| first.distance <= limit)
     }
 
     // The first waits no more.
@@ -104,7 +99,7 @@ impl Desk {
     {
         self.drop_first();
         self.opened += 1;
-        for kid in kids.all() {
+        for kid in kids.as_slice() {
             self.enter(*kid);
         }
     }

@@ -9,8 +9,8 @@ use Rattle.exported.proofs.telling.next_row.Goals as goal
 pub returns : goal.returns
 returns g c =
     let b = c.args.browse.now in
-    let m = loaded_model b.book in
-    let far = g.M.Measure.distance b.measure b.query in
+    let m = loaded_model b.view.book in
+    let far = g.M.Measure.distance b.view.measure b.view.query in
     let s = standing b.desk in
     let e : next_of m far unlimited s ≡ (next_reply c.next.result, standing c.next.new.self.desk) = c.next.ensures.follows in
     record {

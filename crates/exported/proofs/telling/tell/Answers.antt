@@ -1,4 +1,4 @@
-use Rattle.std.proofs.Common.{◌+◌, set, Some, None, sym, refl, ◌∙◌, subst, arith}
+use Rattle.std.proofs.Common.{◌+◌, set, Some, None, sym, refl, ap, ◌∙◌, subst, arith}
 use Rattle.loaded.specs.Loaded.{loaded_model}
 use Rattle.browse.specs.Desk.{standing}
 use Rattle.exported.specs.Following.{Follows}
@@ -8,9 +8,7 @@ use Rattle.exported.proofs.telling.tell.Goals as goal
 pub loop-told-init : goal.loop-told-init
 loop-told-init g c =
     let b = c.args.browse.now in (
-      begins (loaded_model b.book) (g.M.Measure.distance b.measure b.query) c.args.rows.now (standing b.desk) c.requires.opening,
-      refl,
-      refl,
+      begins (loaded_model b.view.book) (g.M.Measure.distance b.view.measure b.view.query) c.args.rows.now (standing b.desk) c.requires.opening,
       refl,
       omega arith,
     )
@@ -18,24 +16,19 @@ loop-told-init g c =
 pub loop-told-preserved : goal.loop-told-preserved
 loop-told-preserved g c =
     let b = c.args.browse.now in
-    let m = loaded_model b.book in
+    let m = loaded_model b.view.book in
     let d = g.M.Measure.distance in
     let lp = c.loop-told.browse in
     let k = c.loop-told.invariant in
     let s = standing lp.desk in
     let t = standing c.next_row.new.browse.desk in
     let r = c.in-Some.row in
-    let parts = c.next_row.ensures.parts in
-    let f : Follows (loaded_model lp.book) (d lp.measure lp.query) (standing lp.desk) (Some r) (standing c.next_row.new.browse.desk) = c.in-Some.ensures.follows in
-    let f : Follows m (d lp.measure lp.query) s (Some r) t = subst (λ x. Follows (loaded_model x) (d lp.measure lp.query) (standing lp.desk) (Some r) (standing c.next_row.new.browse.desk)) k.1 f in
-    let f : Follows m (d b.measure lp.query) s (Some r) t = subst (λ x. Follows m (d x lp.query) s (Some r) t) k.2 f in
-    let f : Follows m (d b.measure b.query) s (Some r) t = subst (λ x. Follows m (d b.measure x) s (Some r) t) k.3 f in
+    let f : Follows (loaded_model lp.view.book) (d lp.view.measure lp.view.query) s (Some r) t = c.in-Some.ensures.follows in
+    let f : Follows m (d b.view.measure b.view.query) s (Some r) t = subst (λ v. Follows (loaded_model v.book) (d v.measure v.query) s (Some r) t) k.1 f in
     let before = c.args.rows.now in
-    let more = tells_more m (d b.measure b.query) before s t c.loop-told.rows c.loop-told.told k.0 r c.requires.accepted f (omega arith) in (
-      subst (λ y. Telling m (d b.measure b.query) t before (set c.loop-told.rows c.loop-told.told y) (c.loop-told.told + 1)) (sym c.told_row.ensures) more,
-      parts.0 ∙ k.1,
-      parts.1 ∙ k.2,
-      parts.2 ∙ k.3,
+    let more = tells_more m (d b.view.measure b.view.query) before s t c.loop-told.rows c.loop-told.told k.0 r c.requires.accepted f (omega arith) in (
+      subst (λ y. Telling m (d b.view.measure b.view.query) t before (set c.loop-told.rows c.loop-told.told y) (c.loop-told.told + 1)) (sym c.told_row.ensures) more,
+      c.next_row.ensures.parts ∙ k.1,
       omega arith,
     )
 
@@ -43,21 +36,19 @@ pub returns-after-loop-told : goal.returns-after-loop-told
 returns-after-loop-told g c =
     let b = c.args.browse.now in
     let k = c.loop-told.invariant in
-    let e = ends_full (loaded_model b.book) (g.M.Measure.distance b.measure b.query) c.args.rows.now (standing c.loop-told.browse.desk) (standing c.loop-told.browse.desk) c.loop-told.rows c.loop-told.told k.0 (omega arith) k.4 in
-    record { book = k.1; count = e.0; rows = e.1 }
+    let e = ends_full (loaded_model b.view.book) (g.M.Measure.distance b.view.measure b.view.query) c.args.rows.now (standing c.loop-told.browse.desk) (standing c.loop-told.browse.desk) c.loop-told.rows c.loop-told.told k.0 (omega arith) k.2 in
+    record { book = ap (λ v. v.book) k.1; count = e.0; rows = e.1 }
 
 pub returns-in_default : goal.returns-in_default
 returns-in_default g c =
     let b = c.args.browse.now in
-    let m = loaded_model b.book in
+    let m = loaded_model b.view.book in
     let d = g.M.Measure.distance in
     let lp = c.loop-told.browse in
     let k = c.loop-told.invariant in
     let s = standing lp.desk in
     let t = standing c.next_row.new.browse.desk in
-    let f : Follows (loaded_model lp.book) (d lp.measure lp.query) (standing lp.desk) None (standing c.next_row.new.browse.desk) = c.in_default.ensures.follows in
-    let f : Follows m (d lp.measure lp.query) s None t = subst (λ x. Follows (loaded_model x) (d lp.measure lp.query) (standing lp.desk) None (standing c.next_row.new.browse.desk)) k.1 f in
-    let f : Follows m (d b.measure lp.query) s None t = subst (λ x. Follows m (d x lp.query) s None t) k.2 f in
-    let f : Follows m (d b.measure b.query) s None t = subst (λ x. Follows m (d b.measure x) s None t) k.3 f in
-    let e = ends_short m (d b.measure b.query) c.args.rows.now s t c.loop-told.rows c.loop-told.told k.0 c.requires.accepted (g.met.M.Measure.fits b.measure b.query) f k.4 in
-    record { book = c.next_row.ensures.parts.0 ∙ k.1; count = e.0; rows = e.1 }
+    let f : Follows (loaded_model lp.view.book) (d lp.view.measure lp.view.query) s None t = c.in_default.ensures.follows in
+    let f : Follows m (d b.view.measure b.view.query) s None t = subst (λ v. Follows (loaded_model v.book) (d v.measure v.query) s None t) k.1 f in
+    let e = ends_short m (d b.view.measure b.view.query) c.args.rows.now s t c.loop-told.rows c.loop-told.told k.0 c.requires.accepted (g.met.M.Measure.fits b.view.measure b.view.query) f k.2 in
+    record { book = ap (λ v. v.book) (c.next_row.ensures.parts ∙ k.1); count = e.0; rows = e.1 }

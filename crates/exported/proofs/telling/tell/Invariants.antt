@@ -7,8 +7,8 @@ use Rattle.exported.proofs.telling.tell.Given as goal
 abbrev pub invariant-loop-told : goal.invariant-loop-told
 invariant-loop-told g l =
     let b = l.initial.browse in
-    Telling (loaded_model b.book) (g.M.Measure.distance b.measure b.query) (standing l.browse.desk) l.initial.rows l.rows l.told
-    × (l.browse.book ≡ b.book) × (l.browse.measure ≡ b.measure) × (l.browse.query ≡ b.query) × (l.told ≤ length l.initial.rows)
+    Telling (loaded_model b.view.book) (g.M.Measure.distance b.view.measure b.view.query) (standing l.browse.desk) l.initial.rows l.rows l.told
+    × (l.browse.view ≡ b.view) × (l.told ≤ length l.initial.rows)
 
 abbrev pub decreases-loop-told : goal.decreases-loop-told
 decreases-loop-told g l = length l.initial.rows - l.told

@@ -6,8 +6,8 @@ use Rattle.browse.proofs.browse.Browse.take_turns.Given as goal
 abbrev pub invariant-loop-turn : goal.invariant-loop-turn
 invariant-loop-turn g l =
     let b = l.initial.self in
-    let m = g.B.Book.model b.book in
-    let far = g.M.Measure.distance b.measure b.query in
+    let m = g.B.Book.model b.view.book in
+    let far = g.M.Measure.distance b.view.measure b.view.query in
     Saying m far (standing b.desk) l.turns (standing l.self.desk) l.turn-index (vec_items l.answers)
-    × (l.self.book ≡ b.book) × (l.self.measure ≡ b.measure) × (l.self.query ≡ b.query)
+    × (l.self.view ≡ b.view)
     × (vec_len l.answers + length l.turns ≤ vec_capacity l.answers + l.turn-index)

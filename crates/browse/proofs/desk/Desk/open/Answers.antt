@@ -1,11 +1,9 @@
-use Rattle.std.proofs.Common.{◌≡◌, ◌+◌, ◌≤◌, map, length, pos, sym, refl, ap, ◌∙◌, arith}
+use Rattle.std.proofs.Common.{◌≡◌, ◌+◌, ◌≤◌, map, length, sym, refl, ap, arith}
 use Rattle.std.proofs.lemmas.List.{length-map}
 use Rattle.search.specs.Search.{Standing}
-use Rattle.browse.specs.declared.waiting.Class.TheVariants.{Node}
 use Rattle.browse.specs.Thing.{Thing}
-use Rattle.browse.specs.Desk.{thing_of, standing}
+use Rattle.browse.specs.Desk.{thing_of}
 use Rattle.browse.specs.Waitings.{length_waiting}
-use Rattle.browse.proofs.Entering.{with_all, enters_one, entered_all}
 use Rattle.browse.proofs.desk.Desk.open.Goals as goal
 
 -- one more is opened
@@ -16,19 +14,7 @@ pub loop-kid-init : goal.loop-kid-init
 loop-kid-init c =
     let s = c.args.self.now in
     let d = c.drop_first.new.self in
-    let ks = c.all-kid-items.result.now in
+    let ks = c.as_slice-kid-items.result.now in
     let long : length ks ≡ length (map thing_of ks) = sym (length-map ks thing_of) in
-    let room : length ks + s.used ≤ 2049 = omega (arith, long, ap (λ l. length (map thing_of l)) c.all-kid-items.ensures, length_waiting s.used s.table (omega arith)) in
+    let room : length ks + s.used ≤ 2049 = omega (arith, long, ap (λ l. length (map thing_of l)) c.as_slice-kid-items.ensures.value, length_waiting s.used s.table (omega arith)) in
     (refl, omega (arith, room, c.drop_first.ensures.used), omega (arith, d.grown))
-
-pub loop-kid-preserved : goal.loop-kid-preserved
-loop-kid-preserved c =
-    let e = c.enter.ensures in
-    enters_one (more (standing c.drop_first.new.self)) c.all-kid-items.result.now c.loop-kid.self c.enter.new.self c.loop-kid.kid-index
-    (record { distance = 0; class = Node; number = 0; arrival = 0; top = pos 0 }) (omega arith) e.standing e.used e.arrivals c.loop-kid.invariant
-
-pub returns : goal.returns
-returns c =
-    let ks = c.all-kid-items.result.now in
-    entered_all (more (standing c.drop_first.new.self)) ks c.loop-kid.self c.loop-kid.kid-index (omega arith) c.loop-kid.invariant
-    ∙ (λ i. with_all (c.all-kid-items.ensures i) (more (c.drop_first.ensures.standing i)))
