@@ -29,6 +29,14 @@ module _ (start : Pen) {first : Pen} (ys zs : List ℕ) (room : HasRoom start (y
   pub wrote_both : {last : Pen} → last ≡ wrote first zs → last ≡ wrote start (ys ++ zs)
   wrote_both e = e ∙ ap (λ p. wrote p zs) put ∙ wrote_more start ys zs fits
 
+-- a piece of three parts
+module _ (start : Pen) {first second : Pen} (ys zs ws : List ℕ) (room : HasRoom start (ys ++ (zs ++ ws))) (put : first ≡ wrote start ys) (put_more : second ≡ wrote first zs) where
+  pub room_third : HasRoom second ws
+  room_third = room_behind first zs ws (room_behind start ys (zs ++ ws) room put) put_more
+
+  pub wrote_three : {last : Pen} → last ≡ wrote second ws → last ≡ wrote start (ys ++ (zs ++ ws))
+  wrote_three e = wrote_both start ys (zs ++ ws) room put (wrote_both first zs ws (room_behind start ys (zs ++ ws) room put) put_more e)
+
 -- of the piece `whole`, which `start` has to put, `now` has put all but `rest`
 pub record Left (start : Pen) (whole rest : List ℕ) (now : Pen) : Type 0 where
   pub room : HasRoom now rest

@@ -11,6 +11,7 @@ use book::book::Book;
 use book::place::Entry;
 
 /// Puts the record of an entry: the low corner of its box, the high corner, the target.
+#[tactic(auto, using(crate::proofs::Pens::wrote_three))]
 fn put_entry(entry: Entry, pen: &mut Pen)
     requires { HasRoom pen.old (entry_record entry) }
     ensures { pen.new ≡ wrote pen.old (entry_record entry) }
@@ -42,6 +43,7 @@ fn put_entry_records<B: Book>(book: &B, pen: &mut Pen)
 }
 
 /// Puts the section of the entries, of which there are `count`.
+#[tactic(auto, using(crate::proofs::Pens::wrote_both))]
 pub(crate) fn put_entries<B: Book>(book: &B, count: u16, pen: &mut Pen)
     requires counted { count ≡ total_places (B.Book.model book.now) }
     requires room { HasRoom pen.old (entry_section (B.Book.model book.now)) }

@@ -31,6 +31,7 @@ fn put_node_records<B: Book>(book: &B, pen: &mut Pen)
 }
 
 /// Puts the section of the nodes of a book whose places can be numbered.
+#[tactic(auto, using(crate::proofs::Pens::wrote_both))]
 pub(crate) fn put_nodes<B: Book>(book: &B, pen: &mut Pen)
     requires places { total_places (B.Book.model book.now) ≤ 2048 }
     requires room { HasRoom pen.old (node_section (B.Book.model book.now)) }

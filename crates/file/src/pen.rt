@@ -49,6 +49,7 @@ impl<'a> Pen<'a> {
     }
 
     /// Puts a coordinate.
+    #[tactic(auto, using(crate::proofs::Bytes::le32_is))]
     fn put_i32(&mut self, coordinate: i32)
         requires { HasRoom self.old (le32 coordinate) }
         ensures { self.new ≡ wrote self.old (le32 coordinate) }
@@ -57,6 +58,7 @@ impl<'a> Pen<'a> {
     }
 
     /// Puts the three coordinates of a point.
+    #[tactic(auto, using(crate::proofs::Pens::room_third))]
     pub(crate) fn put_point(&mut self, point: Point)
         requires { HasRoom self.old (point_bytes point) }
         ensures { self.new ≡ wrote self.old (point_bytes point) }

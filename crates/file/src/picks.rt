@@ -19,6 +19,7 @@ fn put_pick_records<B: Book>(book: &B, pen: &mut Pen)
 }
 
 /// Puts the section of the picks.
+#[tactic(auto, using(crate::proofs::Pens::wrote_both))]
 pub(crate) fn put_picks<B: Book>(book: &B, pen: &mut Pen)
     requires { HasRoom pen.old (pick_section (B.Book.model book.now)) }
     ensures { pen.new ≡ wrote pen.old (pick_section (B.Book.model book.now)) }

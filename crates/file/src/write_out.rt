@@ -21,6 +21,7 @@ use refusal::refusal::Refusal;
 const MOST_PLACES: usize = 2048;
 
 /// The length of the file of a book with so many entries and no spoilt place.
+#[tactic(auto, using(crate::proofs::Lengths::length_encode))]
 fn file_length<B: Book>(book: &B, entries: u16) -> usize
     requires counted { entries ≡ total_places (B.Book.model book.now) }
     requires unspoilt { None ≡ first_spoilt (B.Book.model book.now) }
