@@ -12,6 +12,7 @@ pub(crate) fn fill<R, T: Drop, F: Fn(&R) -> T>(table: &mut Vec<T>, records: &[R]
     ensures room { vec_capacity table.new ≡ vec_capacity table.old }
 {
     table.clear();
+    // `extend` may ask for memory, and so can fail; here there is room.
     for record in records {
         table.push_reserved(read(record));
     }
