@@ -1,6 +1,5 @@
 -- What the copies come to, by what their two halves promise.
-use Rattle.std.proofs.Common.{◌≡◌, ℕ, ◌-◌, Bool, true, false, cond, ltb, List, ◌++◌, length, take, drop, Some, None, Ok, Err, Option, Result, sym, refl, ap, ◌∙◌}
-use native.Mathlib.Nat.{sub-zero}
+use Rattle.std.proofs.Common.{◌≡◌, ℕ, Bool, true, false, cond, ltb, List, ◌++◌, length, take, drop, Some, None, Ok, Err, Option, Result, sym, refl, ap, ◌∙◌}
 use Rattle.std.proofs.lemmas.List.{take_at}
 use Rattle.std.proofs.lemmas.Bool.{cond-false, le-ltb, ltb-false}
 use Rattle.refusal.specs.Told.{Told, plain}
@@ -11,8 +10,7 @@ use Rattle.book.specs.Totals.{total_places}
 use Rattle.file.specs.Encode.{encode}
 use Rattle.file.specs.WriteOut.{unless_spoilt, write_out_answer, left_by, write_out_leaves}
 use Rattle.loaded.specs.Decode.{decode}
-use Rattle.loaded.specs.Load.{load_answer, held_after}
-use Rattle.round_trip.specs.Copy.{copied_or, book_copied, of_file, file_copy_answer, file_copy_leaves}
+use Rattle.round_trip.specs.Copy.{of_file, file_copy_answer, file_copy_leaves}
 use Rattle.round_trip.proofs.Parts.{err_ok, ok_inj}
 use Rattle.round_trip.proofs.WrittenLoads.{written_loads}
 use Rattle.round_trip.proofs.LoadedWrites.{Kept}
@@ -25,24 +23,12 @@ tests_passed false None false size n e = (refl, refl, ok_inj e)
 
 module _ (m : Model) (xs : List ℕ) (n : ℕ) (answer : Ok n ≡ write_out_answer m (length xs)) where
   -- what was written out is read as the book
-  pub reads_back : BookShape m → (ys : List ℕ) → ys ≡ write_out_leaves m xs → decode (take (n - 0) ys) ≡ Ok m
+  pub reads_back : BookShape m → (ys : List ℕ) → ys ≡ write_out_leaves m xs → decode (take n ys) ≡ Ok m
   reads_back shape ys leaves =
       let passed = tests_passed (ltb 2048 (total_places m)) (first_spoilt m) (ltb (length xs) (length (encode m))) (length (encode m)) n answer in
       let is : ys ≡ encode m ++ drop n xs = leaves ∙ ap (λ a. left_by a (encode m) xs) (sym answer) in
-      let cut : take (n - 0) ys ≡ encode m = (λ i. take (sub-zero n i) (is i)) ∙ take_at (encode m) (drop n xs) n (sym passed.2) in
+      let cut : take n ys ≡ encode m = ap (take n) is ∙ take_at (encode m) (drop n xs) n (sym passed.2) in
       ap decode cut ∙ written_loads m shape (ltb-false 2048 (total_places m) passed.0) passed.1
-
-  -- and held
-  pub copied : (bytes : List ℕ) (before held : Model) → decode bytes ≡ Ok m → held ≡ held_after (decode bytes) before → held ≡ book_copied m (length xs) before
-  copied bytes before held back h = h ∙ ap (λ d. held_after d before) back ∙ ap (λ a. copied_or a m before) answer
-
--- a file that is read as a book is not refused
-pub not_refused : {P : Type 0} (file : Result Model Told) (m : Model) (t : Told) → file ≡ Ok m → Err t ≡ load_answer file → P
-not_refused file m t e r = err_ok (r ∙ ap load_answer e)
-
-pub accepted : (file : Result Model Told) (before after : Model) → Ok tt ≡ load_answer file → after ≡ held_after file before → file ≡ Ok after
-accepted (Ok m) before after r h = ap (λ b. Ok b) (sym h)
-accepted (Err t) before after r h = err_ok (sym r)
 
 module _ (bytes : List ℕ) (m : Model) (e : decode bytes ≡ Ok m) (k : Kept bytes m) where
   abbrev rest : List ℕ → ℕ → Result ℕ Told

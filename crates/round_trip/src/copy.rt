@@ -23,7 +23,7 @@ pub fn copy_book<B: Book>(book: &B, room: &mut [u8], held: &mut Loaded) -> Resul
     ensures loads { WrittenLoads }
 {
     let length = write_out(book, room)?;
-    held.load(&room[0..length])?;
+    held.load(&room[..length])?;
     Ok(length)
 }
 

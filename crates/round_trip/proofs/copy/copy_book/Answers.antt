@@ -1,7 +1,5 @@
 use Rattle.std.proofs.Common.{rules}
-use Rattle.loaded.specs.Loaded.{loaded_model}
-use Rattle.refusal.specs.Told.{file_told}
-use Rattle.round_trip.proofs.Copies.{reads_back, copied, not_refused}
+use Rattle.round_trip.proofs.Copies.{reads_back}
 use Rattle.round_trip.proofs.WrittenLoads.{written_loads}
 use Rattle.round_trip.proofs.copy.copy_book.Goals as goal
 
@@ -13,14 +11,13 @@ pub returns-in_err-load : goal.returns-in_err-load
 returns-in_err-load g c =
     let m = g.B.Book.model c.args.book.now in
     let back = reads_back m c.args.room.now c.in_ok-length.length c.in_ok-length.ensures.answer (g.met.B.Book.shape c.args.book.now) c.write_out.new.out c.in_ok-length.ensures.bytes in
-    not_refused _ m (file_told c.in_err-load.field-0.0) back (search rules)
+    absurd (search rules)
 
 pub returns-clause-book : goal.returns-clause-book
 returns-clause-book g c =
     let m = g.B.Book.model c.args.book.now in
-    let done = c.in_ok-length.ensures.answer in
-    let back = reads_back m c.args.room.now c.in_ok-length.length done (g.met.B.Book.shape c.args.book.now) c.write_out.new.out c.in_ok-length.ensures.bytes in
-    copied m c.args.room.now c.in_ok-length.length done _ (loaded_model c.args.held.now) _ back (search rules)
+    let back = reads_back m c.args.room.now c.in_ok-length.length c.in_ok-length.ensures.answer (g.met.B.Book.shape c.args.book.now) c.write_out.new.out c.in_ok-length.ensures.bytes in
+    search rules
 
 pub returns-clause-loads : goal.returns-clause-loads
 returns-clause-loads g c = written_loads

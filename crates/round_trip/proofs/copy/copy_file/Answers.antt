@@ -1,9 +1,8 @@
 use Rattle.std.proofs.Common.{◌≡◌, Ok, ◌<◌, length, arith, rules}
 use Rattle.std.proofs.ByRecursion.{All-from_get_or}
 use Rattle.loaded.specs.Decode.{decode}
-use Rattle.loaded.specs.Load.{load_answer}
 use Rattle.loaded.specs.Loaded.{loaded_model}
-use Rattle.round_trip.proofs.Copies.{accepted, same_answer, same_leaves}
+use Rattle.round_trip.proofs.Copies.{same_answer, same_leaves}
 use Rattle.round_trip.proofs.LoadedWrites.{kept, loaded_writes}
 use Rattle.round_trip.proofs.copy.copy_file.Goals as goal
 
@@ -16,8 +15,7 @@ returns c =
     let room = c.args.room.now in
     let m = loaded_model c.load.new.self in
     let small = All-from_get_or (λ b. b < 256) bytes 0 (λ i within. omega (arith, c.type_inv.bytes i)) in
-    let taken : Ok tt ≡ load_answer (decode bytes) = search rules in
-    let is = accepted (decode bytes) (loaded_model c.args.held.now) m taken c.load.ensures.book in
+    let is : decode bytes ≡ Ok m = search rules in
     let k = kept bytes m small is in
     let answer = same_answer bytes m is k (length room) in
     let leaves = same_leaves bytes m is k room in
