@@ -8,6 +8,7 @@ const MOST_DIGITS: usize = 16;
 
 /// The number that 1 to 16 digits write. Leading zeros are fine. `str::parse` would take a leading plus as well, so the
 /// digits would have to be tested first all the same.
+#[tactic(auto, using(crate::proofs::Digits::all_read, crate::proofs::Digits::stopped), unfolding(crate::specs::Limit::limit_of))]
 pub fn typed_limit(text: &[u8]) -> Option<u64>
     ensures { result ≡ limit_of text.now }
 {

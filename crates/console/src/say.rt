@@ -47,7 +47,10 @@ impl fmt::Display for Said {
                 } = row;
                 let number = kind.map_or(0, u8::from);
                 let top = Hundredths(top);
-                write!(f, "pick {pick} at {distance} kind {number} top {top} opened {opened}")
+                write!(
+                    f,
+                    "pick {pick} at {distance} kind {number} top {top} opened {opened}"
+                )
             }
             Said::Report(Counts { told, opened }) => write!(f, "told {told} opened {opened}"),
             Said::Closed => f.write_str("closed"),
