@@ -1,113 +1,18 @@
 //! Browses of a book beside plain scans of it.
 
-use crate::chance::Chance;
+use crate::agreed::Agreed;
 use crate::extent::{Extent, Field};
 use crate::scan::Scan;
+use crate::source::Source;
 use anyhow::anyhow;
 use book::book::Book;
 use book_check::scan::check;
-use browse::answer::{Answer, Found};
+use browse::answer::Answer;
 use browse::browse::Browse;
 use geometry::bounds::Bounds;
 use geometry::choice::Choice;
 use search::turn::{Call, Hand, Turn};
 use std::alloc::{AllocError, Global};
-
-/// How much was found to agree.
-#[derive(Clone, Copy)]
-pub struct Agreed {
-    pub books: u32,
-    pub browses: u32,
-    pub rows: u32,
-    pub counts: u32,
-}
-
-impl Agreed {
-    pub const NOTHING: Agreed = Agreed {
-        books: 0,
-        browses: 0,
-        rows: 0,
-        counts: 0,
-    };
-
-    fn note(&mut self, answer: Answer) {
-        match answer {
-            Answer::Next(Ok(Found { row: Some(_), .. })) => {
-                self.rows = self.rows.saturating_add(1);
-                self.counts = self.counts.saturating_add(1);
-            }
-            Answer::Next(_) => self.counts = self.counts.saturating_add(1),
-            Answer::Report(_) => self.counts = self.counts.saturating_add(2),
-        }
-    }
-
-    // One answer of the browse beside the scan's.
-    fn hold(&mut self, got: Answer, wanted: Answer) -> anyhow::Result<()> {
-        if got != wanted {
-            return Err(anyhow!("an answer differs from the plain scan"));
-        }
-        self.note(got);
-        Ok(())
-    }
-}
-
-fn drawn_limit(chance: &mut Chance, scan: &Scan) -> u64 {
-    let far = scan.distance_at(chance.place(scan.picks()));
-    match chance.below(6) {
-        0 => 0,
-        1 => far,
-        2 => far.saturating_sub(1),
-        3 => far / 2,
-        4 => far.saturating_add(chance.below(1000)),
-        _ => u64::MAX,
-    }
-}
-
-fn drawn_turn(chance: &mut Chance, scan: &Scan) -> Turn {
-    let hand = if chance.once_in(2) {
-        Hand::Day
-    } else {
-        Hand::Evening
-    };
-    let call = if chance.once_in(5) {
-        Call::Report
-    } else {
-        Call::Next(drawn_limit(chance, scan))
-    };
-    Turn { hand, call }
-}
-
-fn drawn_turns(heap: Global, chance: &mut Chance, scan: &Scan) -> Result<Vec<Turn>, AllocError> {
-    let mut turns = Vec::new(heap);
-    for _ in 0..chance.below(40) {
-        turns.push(drawn_turn(chance, scan))?;
-    }
-    Ok(turns)
-}
-
-// As many unlimited turns as there are picks, and some to spare.
-fn all_the_rest(heap: Global, chance: &mut Chance, scan: &Scan) -> Result<Vec<Turn>, AllocError> {
-    let mut turns = Vec::new(heap);
-    let call = Call::Next(u64::MAX);
-    for _ in 0..scan.picks() {
-        turns.push(Turn {
-            hand: Hand::Day,
-            call,
-        })?;
-    }
-    for _ in 0..3 {
-        turns.push(Turn {
-            hand: Hand::Evening,
-            call,
-        })?;
-        turns.push(drawn_turn(chance, scan))?;
-    }
-    turns.push(Turn {
-        hand: Hand::Day,
-        call: Call::Report,
-    })?;
-    Ok(turns)
-}
 
 // All turns at once.
 fn take_turns<B: Book>(
@@ -144,64 +49,112 @@ fn take_singly<B: Book>(
     Ok(())
 }
 
-// A box that the book holds, or any of the field where the node drawn has none.
-fn held_box<B: Book>(chance: &mut Chance, field: &Field, book: &B) -> Extent {
-    let node = u16::try_from(chance.below(u64::from(book.node_count()))).unwrap_or(0);
-    match book.place(node, 0) {
-        Some(entry) => Extent::of(&entry.bounds),
-        None => field.draw(chance),
+impl Source {
+    fn drawn_limit(&mut self, scan: &Scan) -> u64 {
+        let far = scan.distance_at(self.chance.place(scan.picks()));
+        match self.chance.below(6) {
+            0 => 0,
+            1 => far,
+            2 => far.saturating_sub(1),
+            3 => far / 2,
+            4 => far.saturating_add(self.chance.below(1000)),
+            _ => u64::MAX,
+        }
     }
-}
 
-// Near the book, at one of its boxes, or anywhere.
-fn drawn_query<B: Book>(chance: &mut Chance, field: &Field, book: &B) -> anyhow::Result<Bounds> {
-    let extent = match chance.below(3) {
-        0 => Field::WHOLE.draw(chance),
-        1 => held_box(chance, field, book).loosened(chance, field.step),
-        _ => field.draw(chance),
-    };
-    match Bounds::new(extent.low.point(), extent.high.point()) {
-        Ok(query) => Ok(query),
-        Err(_) => Err(anyhow!("a drawn query is refused")),
+    fn drawn_turn(&mut self, scan: &Scan) -> Turn {
+        let hand = if self.chance.once_in(2) {
+            Hand::Day
+        } else {
+            Hand::Evening
+        };
+        let call = if self.chance.once_in(5) {
+            Call::Report
+        } else {
+            Call::Next(self.drawn_limit(scan))
+        };
+        Turn { hand, call }
     }
-}
 
-fn compare_one<B: Book + Drop>(
-    heap: Global,
-    chance: &mut Chance,
-    field: &Field,
-    book: B,
-    choice: Choice,
-    agreed: &mut Agreed,
-) -> anyhow::Result<B> {
-    let query = drawn_query(chance, field, &book)?;
-    let mut scan = Scan::of(heap, &book, choice, &query)?;
-    let mut browse = Browse::open(book, choice, query);
-    let turns = drawn_turns(heap, chance, &scan)?;
-    take_turns(heap, &mut browse, &mut scan, &turns, agreed)?;
-    let turns = drawn_turns(heap, chance, &scan)?;
-    take_singly(&mut browse, &mut scan, &turns, agreed)?;
-    let turns = all_the_rest(heap, chance, &scan)?;
-    take_turns(heap, &mut browse, &mut scan, &turns, agreed)?;
-    agreed.browses = agreed.browses.saturating_add(1);
-    let (book, _) = browse.close();
-    Ok(book)
-}
-
-/// Checks a book, and browses it by each measure. The book comes back.
-pub(crate) fn compare<B: Book + Drop>(
-    heap: Global,
-    chance: &mut Chance,
-    field: &Field,
-    book: B,
-    agreed: &mut Agreed,
-) -> anyhow::Result<B> {
-    if check(&book).is_err() {
-        return Err(anyhow!("a drawn book is not accepted"));
+    fn drawn_turns(&mut self, scan: &Scan) -> Result<Vec<Turn>, AllocError> {
+        let mut turns = Vec::new(self.heap);
+        for _ in 0..self.chance.below(40) {
+            turns.push(self.drawn_turn(scan))?;
+        }
+        Ok(turns)
     }
-    let book = compare_one(heap, chance, field, book, Choice::Euclidean, agreed)?;
-    let book = compare_one(heap, chance, field, book, Choice::Manhattan, agreed)?;
-    let book = compare_one(heap, chance, field, book, Choice::Chessboard, agreed)?;
-    agreed.books = agreed.books.saturating_add(1);
-    Ok(book)
+
+    // As many unlimited turns as there are picks, and some to spare.
+    fn all_the_rest(&mut self, scan: &Scan) -> Result<Vec<Turn>, AllocError> {
+        let unlimited = |hand: Hand| Turn {
+            hand,
+            call: Call::Next(u64::MAX),
+        };
+        let mut turns = vec![in self.heap; unlimited(Hand::Day); scan.picks()]?;
+        for _ in 0..3 {
+            turns.push(unlimited(Hand::Evening))?;
+            turns.push(self.drawn_turn(scan))?;
+        }
+        turns.push(Turn {
+            hand: Hand::Day,
+            call: Call::Report,
+        })?;
+        Ok(turns)
+    }
+
+    // A box that the book holds, or any of the field where the node drawn has none.
+    fn held_box<B: Book>(&mut self, book: &B) -> Extent {
+        let node = self.chance.below(u64::from(book.node_count()));
+        match book.place(u16::try_from(node).unwrap_or(0), 0) {
+            Some(entry) => Extent::from(&entry.bounds),
+            None => self.shape.field.draw(&mut self.chance),
+        }
+    }
+
+    // Near the book, at one of its boxes, or anywhere.
+    fn drawn_query<B: Book>(&mut self, book: &B) -> anyhow::Result<Bounds> {
+        let extent = match self.chance.below(3) {
+            0 => Field::WHOLE.draw(&mut self.chance),
+            1 => self
+                .held_box(book)
+                .loosened(&mut self.chance, self.shape.field.step),
+            _ => self.shape.field.draw(&mut self.chance),
+        };
+        Bounds::try_from(extent).map_err(|_| anyhow!("a drawn query is refused"))
+    }
+
+    fn compare_one<B: Book + Drop>(
+        &mut self,
+        book: B,
+        choice: Choice,
+        agreed: &mut Agreed,
+    ) -> anyhow::Result<B> {
+        let query = self.drawn_query(&book)?;
+        let mut scan = Scan::of(self.heap, &book, choice, &query)?;
+        let mut browse = Browse::open(book, choice, query);
+        let turns = self.drawn_turns(&scan)?;
+        take_turns(self.heap, &mut browse, &mut scan, &turns, agreed)?;
+        let turns = self.drawn_turns(&scan)?;
+        take_singly(&mut browse, &mut scan, &turns, agreed)?;
+        let turns = self.all_the_rest(&scan)?;
+        take_turns(self.heap, &mut browse, &mut scan, &turns, agreed)?;
+        agreed.browses = agreed.browses.saturating_add(1);
+        let (book, _) = browse.close();
+        Ok(book)
+    }
+
+    /// Checks a book, and browses it by each measure. The book comes back.
+    pub(crate) fn compare<B: Book + Drop>(
+        &mut self,
+        book: B,
+        agreed: &mut Agreed,
+    ) -> anyhow::Result<B> {
+        check(&book).map_err(|_| anyhow!("a drawn book is not accepted"))?;
+        let mut book = book;
+        for choice in [Choice::Euclidean, Choice::Manhattan, Choice::Chessboard] {
+            book = self.compare_one(book, choice, agreed)?;
+        }
+        agreed.books = agreed.books.saturating_add(1);
+        Ok(book)
+    }
 }

@@ -1,21 +1,14 @@
 //! Boxes as plain numbers.
 
-use crate::chance::Chance;
+use chance::chance::Chance;
 use geometry::bounds::{Bounds, LEAST, MOST, Point};
-
-/// A corner of a box.
-#[derive(Clone, Copy, PartialEq, Eq, PartialOrd, Ord)]
-pub struct Corner {
-    pub easting: i32,
-    pub northing: i32,
-    pub level: i32,
-}
+use refusal::hands::TypingFault;
 
 /// A box; nothing keeps its ends in order or in range.
 #[derive(Clone, Copy, PartialEq, Eq, PartialOrd, Ord)]
 pub struct Extent {
-    pub low: Corner,
-    pub high: Corner,
+    pub low: Point,
+    pub high: Point,
 }
 
 /// Which boxes are drawn: corners on a grid around the origin, and edges up to a length.
@@ -29,71 +22,60 @@ pub struct Field {
     pub longest: i32,
 }
 
-impl Corner {
-    pub(crate) fn new(easting: i32, northing: i32, level: i32) -> Corner {
-        Corner {
-            easting,
-            northing,
-            level,
+// A point from two, each number from theirs.
+fn each<F: Fn(i32, i32) -> i32>(one: Point, other: Point, put: F) -> Point
+    requires { F.IsAlwaysCallable put }
+{
+    Point {
+        easting: put(one.easting, other.easting),
+        northing: put(one.northing, other.northing),
+        level: put(one.level, other.level),
+    }
+}
+
+// Each number farther by an amount from `least` to `most`, within the range.
+fn pushed(point: Point, chance: &mut Chance, least: i32, most: i32) -> Point {
+    let amount = Point {
+        easting: chance.between(least, most),
+        northing: chance.between(least, most),
+        level: chance.between(least, most),
+    };
+    each(point, amount, |number, amount| {
+        number.saturating_add(amount).clamp(LEAST, MOST)
+    })
+}
+
+impl From<&Bounds> for Extent {
+    fn from(bounds: &Bounds) -> Extent {
+        Extent {
+            low: bounds.low(),
+            high: bounds.high(),
         }
     }
+}
 
-    pub(crate) fn point(self) -> Point {
-        Point {
-            easting: self.easting,
-            northing: self.northing,
-            level: self.level,
-        }
-    }
+impl TryFrom<Extent> for Bounds {
+    type Error = TypingFault;
 
-    fn least(self, other: Corner) -> Corner {
-        Corner::new(
-            self.easting.min(other.easting),
-            self.northing.min(other.northing),
-            self.level.min(other.level),
-        )
-    }
-
-    fn most(self, other: Corner) -> Corner {
-        Corner::new(
-            self.easting.max(other.easting),
-            self.northing.max(other.northing),
-            self.level.max(other.level),
-        )
-    }
-
-    // each number farther by up to so much, within the range
-    fn pushed(self, chance: &mut Chance, least: i32, most: i32) -> Corner {
-        let far = Corner::new(MOST, MOST, MOST);
-        let near = Corner::new(LEAST, LEAST, LEAST);
-        let easting = self.easting.saturating_add(chance.between(least, most));
-        let northing = self.northing.saturating_add(chance.between(least, most));
-        let level = self.level.saturating_add(chance.between(least, most));
-        Corner::new(easting, northing, level).least(far).most(near)
+    fn try_from(extent: Extent) -> Result<Bounds, TypingFault> {
+        Bounds::new(extent.low, extent.high)
     }
 }
 
 impl Extent {
-    pub(crate) fn of(bounds: &Bounds) -> Extent {
-        Extent {
-            low: Corner::new(bounds.easting.low, bounds.northing.low, bounds.level.low),
-            high: Corner::new(bounds.easting.high, bounds.northing.high, bounds.level.high),
-        }
-    }
-
     /// The smallest box around two.
     pub(crate) fn around(self, other: Extent) -> Extent {
         Extent {
-            low: self.low.least(other.low),
-            high: self.high.most(other.high),
+            low: each(self.low, other.low, |one, other| one.min(other)),
+            high: each(self.high, other.high, |one, other| one.max(other)),
         }
     }
 
     /// A box around this one, farther out by up to so much at each end.
     pub(crate) fn loosened(self, chance: &mut Chance, slack: i32) -> Extent {
         Extent {
-            low: self.low.pushed(chance, slack.saturating_neg(), 0),
-            high: self.high.pushed(chance, 0, slack),
+            low: pushed(self.low, chance, slack.saturating_neg(), 0),
+            high: pushed(self.high, chance, 0, slack),
         }
     }
 }
@@ -112,25 +94,26 @@ impl Field {
             .saturating_mul(self.step)
     }
 
-    fn end(&self, chance: &mut Chance, low: i32) -> i32 {
-        let edge = chance.between(0, self.longest).saturating_mul(self.step);
-        low.saturating_add(edge).min(MOST)
+    fn edge(&self, chance: &mut Chance) -> i32 {
+        chance.between(0, self.longest).saturating_mul(self.step)
     }
 
     /// A box of this field; often a point.
     pub(crate) fn draw(&self, chance: &mut Chance) -> Extent {
-        let easting = self.coordinate(chance);
-        let northing = self.coordinate(chance);
-        let level = self.coordinate(chance);
-        let low = Corner::new(easting, northing, level);
+        let low = Point {
+            easting: self.coordinate(chance),
+            northing: self.coordinate(chance),
+            level: self.coordinate(chance),
+        };
         if chance.once_in(2) {
             return Extent { low, high: low };
         }
-        let high = Corner::new(
-            self.end(chance, easting),
-            self.end(chance, northing),
-            self.end(chance, level),
-        );
+        let edges = Point {
+            easting: self.edge(chance),
+            northing: self.edge(chance),
+            level: self.edge(chance),
+        };
+        let high = each(low, edges, |low, edge| low.saturating_add(edge).min(MOST));
         Extent { low, high }
     }
 }

@@ -1,33 +1,13 @@
 //! Trees in the form of a book's file, and loaded.
 
-use crate::chance::Chance;
-use crate::extent::Corner;
-use crate::shape::Shape;
-use crate::tree::{Branch, Group, drawn_tree, shuffled};
+use crate::source::Source;
+use crate::tree::{Branch, Group};
 use anyhow::anyhow;
+use geometry::bounds::Point;
 use loaded::loaded::Loaded;
 use std::alloc::{AllocError, Global};
 
-// The file number of each node. All but the root, which is the last, stand in any order.
-fn node_numbers(heap: Global, chance: &mut Chance, count: u16) -> Result<Vec<u16>, AllocError> {
-    let root = count.saturating_sub(1);
-    let mut numbers = shuffled(heap, chance, root)?;
-    numbers.push(root)?;
-    Ok(numbers)
-}
-
-// The node that has each file number.
-fn in_file_order(heap: Global, numbers: &[u16]) -> Result<Vec<usize>, AllocError> {
-    let mut order = vec![in heap; 0usize; numbers.len()]?;
-    for (node, number) in numbers.iter().enumerate() {
-        if let Some(place) = order.get_mut(usize::from(*number)) {
-            *place = node;
-        }
-    }
-    Ok(order)
-}
-
-fn put_corner(bytes: &mut Vec<u8>, corner: Corner) -> Result<(), AllocError> {
+fn put_corner(bytes: &mut Vec<u8>, corner: Point) -> Result<(), AllocError> {
     bytes.extend_from_slice(&corner.easting.to_le_bytes())?;
     bytes.extend_from_slice(&corner.northing.to_le_bytes())?;
     bytes.extend_from_slice(&corner.level.to_le_bytes())
@@ -54,56 +34,59 @@ fn put_entries(bytes: &mut Vec<u8>, group: &Group, numbers: &[u16]) -> Result<()
     Ok(())
 }
 
-fn put_kinds(bytes: &mut Vec<u8>, chance: &mut Chance, count: u16) -> Result<(), AllocError> {
-    bytes.extend_from_slice(&count.to_le_bytes())?;
-    for _ in 0..count {
-        let kind = u8::try_from(chance.between(1, 5)).unwrap_or(1);
-        bytes.push(kind)?;
-    }
-    Ok(())
-}
-
-// The sections of nodes and entries.
+// The sections of nodes and entries. Each node stands at its number.
 fn put_tree(
     heap: Global,
     bytes: &mut Vec<u8>,
     nodes: &[Group],
     numbers: &[u16],
 ) -> Result<(), AllocError> {
+    let mut order: Vec<(&u16, &Group)> = numbers.iter().zip(nodes).collect(heap)?;
+    order.sort_by_key(|(number, _)| **number)?;
     let mut entries = Vec::new(heap);
     let mut first = 0u16;
     let count = u16::try_from(nodes.len()).unwrap_or(u16::MAX);
     bytes.extend_from_slice(&count.to_le_bytes())?;
-    let order = in_file_order(heap, numbers)?;
-    for node in order.iter() {
-        if let Some(group) = nodes.get(*node) {
-            let places = u8::try_from(group.branches.len()).unwrap_or(u8::MAX);
-            bytes.push(group.level)?;
-            bytes.push(places)?;
-            bytes.extend_from_slice(&first.to_le_bytes())?;
-            put_entries(&mut entries, group, numbers)?;
-            first = first.saturating_add(u16::from(places));
-        }
+    for (_, group) in order.iter() {
+        let places = u8::try_from(group.branches.len()).unwrap_or(u8::MAX);
+        bytes.push(group.level)?;
+        bytes.push(places)?;
+        bytes.extend_from_slice(&first.to_le_bytes())?;
+        put_entries(&mut entries, group, numbers)?;
+        first = first.saturating_add(u16::from(places));
     }
     bytes.extend_from_slice(&first.to_le_bytes())?;
     bytes.extend_from_slice(&entries)
 }
 
-/// A drawn book, by way of its file.
-pub(crate) fn drawn_book(
-    heap: Global,
-    chance: &mut Chance,
-    shape: &Shape,
-) -> anyhow::Result<Loaded> {
-    let nodes = drawn_tree(heap, chance, shape)?;
-    let count = u16::try_from(nodes.len()).unwrap_or(u16::MAX);
-    let numbers = node_numbers(heap, chance, count)?;
-    let mut bytes = Vec::new(heap);
-    put_tree(heap, &mut bytes, &nodes, &numbers)?;
-    put_kinds(&mut bytes, chance, shape.picks.saturating_add(shape.spare))?;
-    let mut book = Loaded::empty(heap)?;
-    if book.load(&bytes).is_err() {
-        return Err(anyhow!("a drawn file is refused"));
+impl Source {
+    // The file number of each node. All but the root, which is the last, stand in any order.
+    fn node_numbers(&mut self, count: usize) -> Result<Vec<u16>, AllocError> {
+        let root = u16::try_from(count).unwrap_or(u16::MAX).saturating_sub(1);
+        let mut numbers = self.shuffled(root)?;
+        numbers.push(root)?;
+        Ok(numbers)
     }
-    Ok(book)
+
+    fn put_kinds(&mut self, bytes: &mut Vec<u8>) -> Result<(), AllocError> {
+        let count = self.shape.picks.saturating_add(self.shape.spare);
+        bytes.extend_from_slice(&count.to_le_bytes())?;
+        for _ in 0..count {
+            bytes.push(self.chance.between(1, 5) as u8)?;
+        }
+        Ok(())
+    }
+
+    /// A drawn book, by way of its file.
+    pub(crate) fn drawn_book(&mut self) -> anyhow::Result<Loaded> {
+        let nodes = self.drawn_tree()?;
+        let numbers = self.node_numbers(nodes.len())?;
+        let mut bytes = Vec::new(self.heap);
+        put_tree(self.heap, &mut bytes, &nodes, &numbers)?;
+        self.put_kinds(&mut bytes)?;
+        let mut book = Loaded::empty(self.heap)?;
+        book.load(&bytes)
+            .map_err(|_| anyhow!("a drawn file is refused"))?;
+        Ok(book)
+    }
 }

@@ -2,55 +2,47 @@
 
 #![tactic(auto)]
 
-mod chance;
+mod agreed;
 mod compare;
 mod extent;
 mod filed;
 mod rounds;
 mod scan;
 mod shape;
+mod source;
 mod tree;
 
-use crate::chance::Chance;
-use crate::compare::Agreed;
-use crate::rounds::{Results, round};
+use crate::rounds::Results;
 use crate::shape::{MOST_NODES, MOST_PLACES, Shape};
+use crate::source::Source;
+use chance::chance::Chance;
 use std::alloc::Global;
 
 /// How many shapes are drawn, besides the two largest.
 const ROUNDS: u16 = 60;
 
 fn all_rounds(heap: Global) -> anyhow::Result<Results> {
-    let mut chance = Chance::new(19_370_511);
-    let mut results = Results::NOTHING;
-    round(heap, &mut chance, &MOST_NODES, &mut results)?;
-    round(heap, &mut chance, &MOST_PLACES, &mut results)?;
+    let mut results = Results::default();
+    let mut source = Source {
+        heap,
+        chance: Chance::new(19_370_511),
+        shape: MOST_NODES,
+    };
+    source.round(&mut results)?;
+    source.shape = MOST_PLACES;
+    source.round(&mut results)?;
     for _ in 0..ROUNDS {
-        let shape = Shape::draw(&mut chance);
-        round(heap, &mut chance, &shape, &mut results)?;
+        source.shape = Shape::draw(&mut source.chance);
+        source.round(&mut results)?;
     }
     Ok(results)
 }
 
-fn print_agreed(rt: &HostRuntime, make: &str, agreed: Agreed) -> anyhow::Result<()> {
-    let books = agreed.books;
-    let browses = agreed.browses;
-    let rows = agreed.rows;
-    let counts = agreed.counts;
-    println!(rt;
-        "{make}: {books} books, {browses} browses, {rows} rows and {counts} counts agreed"
-    )?;
-    Ok(())
-}
-
-fn run(rt: &HostRuntime) -> anyhow::Result<()> {
-    let results = all_rounds(rt.alloc())?;
-    print_agreed(rt, "loaded", results.loaded)?;
-    print_agreed(rt, "shifted", results.shifted)?;
-    print_agreed(rt, "joined", results.joined)?;
-    print_agreed(rt, "joined and shifted", results.joined_shifted)
-}
-
 fn main(rt: HostRuntime) -> anyhow::Result<()> {
-    run(&rt)
+    let results = all_rounds(rt.alloc())?;
+    println!(rt; "loaded: {}", results.loaded)?;
+    println!(rt; "shifted: {}", results.shifted)?;
+    println!(rt; "joined: {}", results.joined)?;
+    println!(rt; "joined and shifted: {}", results.joined_shifted)?;
+    Ok(())
 }

@@ -1,7 +1,7 @@
 //! How large the drawn books are, and how they are built.
 
-use crate::chance::Chance;
 use crate::extent::Field;
+use chance::chance::Chance;
 
 /// What a tree is drawn from.
 #[derive(Clone, Copy)]

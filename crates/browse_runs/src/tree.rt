@@ -1,10 +1,10 @@
 //! Trees over drawn boxes.
 
-use crate::chance::Chance;
+ghost use Rattle.std.specs.Prelude.{◌<◌};
+
 use crate::extent::Extent;
-use crate::shape::Shape;
-use std::alloc::{AllocError, Global};
-use std::mem;
+use crate::source::Source;
+use std::alloc::AllocError;
 
 #[derive(Clone, Copy, PartialEq, Eq, PartialOrd, Ord)]
 pub struct Branch {
@@ -18,120 +18,84 @@ pub struct Group {
     pub branches: Vec<Branch>,
 }
 
-fn number(place: usize) -> u16 {
-    u16::try_from(place).unwrap_or(u16::MAX)
-}
+impl Source {
+    // Each pick with a box.
+    fn drawn_picks(&mut self) -> Result<Vec<Branch>, AllocError> {
+        let shape = self.shape;
+        let mut picks = Vec::new(self.heap);
+        let numbers = self.shuffled(shape.picks.saturating_add(shape.spare))?;
+        for target in numbers.iter().copied().take(usize::from(shape.picks)) {
+            let extent = shape.field.draw(&mut self.chance);
+            picks.push(Branch { extent, target })?;
+        }
+        if shape.sorted {
+            picks.sort()?;
+        }
+        Ok(picks)
+    }
 
-/// The numbers below `count` in any order.
-pub(crate) fn shuffled(
-    heap: Global,
-    chance: &mut Chance,
-    count: u16,
-) -> Result<Vec<u16>, AllocError> {
-    let mut numbers = Vec::with_capacity(heap, usize::from(count))?;
-    for k in 0..count {
-        numbers.push(k)?;
-        let place = chance.place(numbers.len());
-        let last = numbers.len().saturating_sub(1);
-        if place < numbers.len() && last < numbers.len() {
-            numbers.swap(place, last);
+    // A box around these; around nothing any will do.
+    fn box_around(&mut self, branches: &[Branch]) -> Extent {
+        let extent = branches
+            .iter()
+            .map(|branch| branch.extent)
+            .reduce(Extent::around)
+            .unwrap_or_else(|| self.shape.field.draw(&mut self.chance));
+        extent.loosened(&mut self.chance, self.shape.slack)
+    }
+
+    // These become a node; the answer names it.
+    fn node_over(
+        &mut self,
+        nodes: &mut Vec<Group>,
+        level: u8,
+        below: &[Branch],
+    ) -> Result<Branch, AllocError> {
+        let extent = self.box_around(below);
+        let target = u16::try_from(nodes.len()).unwrap_or(u16::MAX);
+        let branches = below.to_vec(self.heap)?;
+        nodes.push(Group { level, branches })?;
+        Ok(Branch { extent, target })
+    }
+
+    // How many places the next node has, at least one.
+    fn room(&mut self) -> usize
+        ensures { 0 < result }
+    {
+        let room = self.chance.between(self.shape.narrowest, self.shape.widest);
+        usize::try_from(room).unwrap_or(1).max(1)
+    }
+
+    // All nodes of one level over what they name; the answer names them.
+    fn level_over(
+        &mut self,
+        nodes: &mut Vec<Group>,
+        level: u8,
+        below: &[Branch],
+    ) -> Result<Vec<Branch>, AllocError> {
+        let mut above = Vec::new(self.heap);
+        let mut rest = below;
+        loop {
+            let room = self.room().min(rest.len());
+            let (group, others) = rest.split_at(room);
+            above.push(self.node_over(nodes, level, group)?)?;
+            if others.is_empty() {
+                return Ok(above);
+            }
+            rest = others;
         }
     }
-    Ok(numbers)
-}
 
-// Each pick with a box.
-fn drawn_picks(
-    heap: Global,
-    chance: &mut Chance,
-    shape: &Shape,
-) -> Result<Vec<Branch>, AllocError> {
-    let mut picks = Vec::new(heap);
-    let numbers = shuffled(heap, chance, shape.picks.saturating_add(shape.spare))?;
-    for target in numbers.iter().take(usize::from(shape.picks)) {
-        let extent = shape.field.draw(chance);
-        picks.push(Branch {
-            extent,
-            target: *target,
-        })?;
-    }
-    if shape.sorted {
-        picks.sort()?;
-    }
-    Ok(picks)
-}
-
-// A box around these; around nothing any will do.
-fn box_around(chance: &mut Chance, shape: &Shape, branches: &[Branch]) -> Extent {
-    let mut extent = match branches.first() {
-        Some(branch) => branch.extent,
-        None => shape.field.draw(chance),
-    };
-    for branch in branches {
-        extent = extent.around(branch.extent);
-    }
-    extent.loosened(chance, shape.slack)
-}
-
-// These become a node; the answer names it.
-fn close_group(
-    chance: &mut Chance,
-    shape: &Shape,
-    nodes: &mut Vec<Group>,
-    group: Group,
-) -> Result<Branch, AllocError> {
-    let extent = box_around(chance, shape, &group.branches);
-    let target = number(nodes.len());
-    nodes.push(group)?;
-    Ok(Branch { extent, target })
-}
-
-// All nodes of one level over what they name; the answer names them.
-fn level_over(
-    heap: Global,
-    chance: &mut Chance,
-    shape: &Shape,
-    nodes: &mut Vec<Group>,
-    level: u8,
-    below: &[Branch],
-) -> Result<Vec<Branch>, AllocError> {
-    let mut above = Vec::new(heap);
-    let mut branches = Vec::new(heap);
-    let mut room = chance.between(shape.narrowest, shape.widest);
-    for branch in below {
-        if room == 0 {
-            let full = mem::replace(&mut branches, Vec::new(heap));
-            above.push(close_group(
-                chance,
-                shape,
-                nodes,
-                Group {
-                    level,
-                    branches: full,
-                },
-            )?)?;
-            room = chance.between(shape.narrowest, shape.widest);
+    /// The nodes of a tree, level by level; the last is the root.
+    pub(crate) fn drawn_tree(&mut self) -> Result<Vec<Group>, AllocError> {
+        let mut nodes = Vec::new(self.heap);
+        let mut below = self.drawn_picks()?;
+        for level in 0..8u8 {
+            below = self.level_over(&mut nodes, level, &below)?;
+            if below.len() == 1 && level >= self.shape.height {
+                break;
+            }
         }
-        branches.push(*branch)?;
-        room = room.saturating_sub(1);
+        Ok(nodes)
     }
-    above.push(close_group(chance, shape, nodes, Group { level, branches })?)?;
-    Ok(above)
-}
-
-/// The nodes of a tree, level by level; the last is the root.
-pub(crate) fn drawn_tree(
-    heap: Global,
-    chance: &mut Chance,
-    shape: &Shape,
-) -> Result<Vec<Group>, AllocError> {
-    let mut nodes = Vec::new(heap);
-    let mut below = drawn_picks(heap, chance, shape)?;
-    for level in 0..8u8 {
-        below = level_over(heap, chance, shape, &mut nodes, level, &below)?;
-        if below.len() == 1 && level >= shape.height {
-            break;
-        }
-    }
-    Ok(nodes)
 }
