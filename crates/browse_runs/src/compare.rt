@@ -146,11 +146,10 @@ impl Source {
     /// Checks a book, and browses it by each measure. The book comes back.
     pub(crate) fn compare<B: Book + Drop>(
         &mut self,
-        book: B,
+        mut book: B,
         agreed: &mut Agreed,
     ) -> anyhow::Result<B> {
         check(&book).map_err(|_| anyhow!("a drawn book is not accepted"))?;
-        let mut book = book;
         for choice in [Choice::Euclidean, Choice::Manhattan, Choice::Chessboard] {
             book = self.compare_one(book, choice, agreed)?;
         }

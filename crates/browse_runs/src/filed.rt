@@ -69,7 +69,7 @@ impl Source {
     }
 
     fn put_kinds(&mut self, bytes: &mut Vec<u8>) -> Result<(), AllocError> {
-        let count = self.shape.picks.saturating_add(self.shape.spare);
+        let count = self.shape.pick_limit();
         bytes.extend_from_slice(&count.to_le_bytes())?;
         for _ in 0..count {
             bytes.push(self.chance.between(1, 5) as u8)?;

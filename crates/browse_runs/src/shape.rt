@@ -76,7 +76,7 @@ fn drawn_field(chance: &mut Chance) -> Field {
 }
 
 // Larger books have wider nodes, since the number of nodes is limited.
-fn drawn_widths(chance: &mut Chance, picks: i32) -> (i32, i32) {
+fn drawn_widths(chance: &mut Chance, picks: u16) -> (i32, i32) {
     if picks > 600 {
         return (10, 16);
     }
@@ -88,13 +88,19 @@ fn drawn_widths(chance: &mut Chance, picks: i32) -> (i32, i32) {
     }
 }
 
-fn drawn_picks(chance: &mut Chance) -> i32 {
+fn drawn_picks(chance: &mut Chance) -> u16 {
     match chance.below(4) {
-        0 => chance.between(0, 4),
-        1 => chance.between(5, 80),
-        2 => chance.between(80, 500),
-        _ => chance.between(500, 1700),
+        0 => chance.between(0, 4) as u16,
+        1 => chance.between(5, 80) as u16,
+        2 => chance.between(80, 500) as u16,
+        _ => chance.between(500, 1700) as u16,
     }
+}
+
+fn drawn_height(chance: &mut Chance, picks: u16) -> u8 {
+    // a leaf without places may only be the root
+    let highest = if picks == 0 { 0 } else { 7 };
+    chance.between(0, highest) as u8
 }
 
 impl Shape {
@@ -102,19 +108,22 @@ impl Shape {
         let field = drawn_field(chance);
         let picks = drawn_picks(chance);
         let (narrowest, widest) = drawn_widths(chance, picks);
-        // a leaf without places may only be the root
-        let highest = if picks == 0 { 0 } else { 7 };
-        let height = chance.between(0, highest);
+        let height = drawn_height(chance, picks);
         let slack = if chance.once_in(2) { 0 } else { field.step };
         Shape {
             field,
-            picks: u16::try_from(picks).unwrap_or(0),
-            spare: u16::try_from(chance.between(0, 20)).unwrap_or(0),
+            picks,
+            spare: chance.between(0, 20) as u16,
             narrowest,
             widest,
-            height: u8::try_from(height).unwrap_or(0),
+            height,
             slack,
             sorted: chance.once_in(2),
         }
+    }
+
+    /// The pick numbers are below this.
+    pub(crate) fn pick_limit(&self) -> u16 {
+        self.picks.saturating_add(self.spare)
     }
 }

@@ -23,7 +23,7 @@ impl Source {
     fn drawn_picks(&mut self) -> Result<Vec<Branch>, AllocError> {
         let shape = self.shape;
         let mut picks = Vec::new(self.heap);
-        let numbers = self.shuffled(shape.picks.saturating_add(shape.spare))?;
+        let numbers = self.shuffled(shape.pick_limit())?;
         for target in numbers.iter().copied().take(usize::from(shape.picks)) {
             let extent = shape.field.draw(&mut self.chance);
             picks.push(Branch { extent, target })?;
