@@ -1,1 +1,2 @@
 pub mod Begin
+pub mod Held
