@@ -1,5 +1,5 @@
 -- Entry records.
-use Rattle.std.proofs.Common.{◌≡◌, ℕ, ◌+◌, ◌*◌, ◌/◌, ◌%◌, ◌<◌, ◌≤◌, List, [], ◌∷◌, ◌++◌, map, length, get_or, take, drop, sym, refl, ap, ◌∙◌, arith, length-drop, w32, to_z, Some, None, Option}
+use Rattle.std.proofs.Common.{◌≡◌, ℕ, ◌+◌, ◌*◌, ◌/◌, ◌%◌, ◌^◌, ◌<◌, ◌≤◌, List, [], ◌∷◌, ◌++◌, map, length, get_or, take, drop, sym, refl, ap, ◌∙◌, arith, length-drop, w32, to_z, Some, None, Option}
 use Rattle.std.proofs.ByRecursion.{All-drop}
 use Rattle.std.proofs.lemmas.List.{get_or-drop, drop-drop, take_all}
 use Rattle.std.proofs.lemmas.Int.{of_z-to_z}
@@ -42,41 +42,46 @@ places_sized [] f = tt
 places_sized (Some e ∷ ps) f = (length_entry_record e, places_sized ps f.1)
 places_sized (None ∷ ps) f = absurd f.0
 
--- a signed number's bytes are those it was read from
-long_written : (a b c d : ℕ) → a < 256 → b < 256 → c < 256 → d < 256 → le32 (to_z w32 (a + b * 256 + c * 65536 + d * 16777216)) ≡ a ∷ b ∷ c ∷ d ∷ []
-unfolding bytes_of
-long_written a b c d small-a small_b small-c small-d =
-    let n = a + b * 256 + c * 65536 + d * 16777216 in
-    let is : twos_complement (to_z w32 n) ≡ n = twos_complement_is (to_z w32 n) ∙ of_z-to_z w32 n (omega arith) in
-    let n1 : n / 256 ≡ b + c * 256 + d * 65536 = omega arith in
-    let n2 : n / 256 / 256 ≡ c + d * 256 = ap (λ k. k / 256) n1 ∙ omega arith in
-    let n3 : n / 256 / 256 / 256 ≡ d = ap (λ k. k / 256) n2 ∙ omega arith in
-    let b0 : n % 256 ≡ a = omega arith in
-    let b1 : n / 256 % 256 ≡ b = ap (λ k. k % 256) n1 ∙ omega arith in
-    let b2 : n / 256 / 256 % 256 ≡ c = ap (λ k. k % 256) n2 ∙ omega arith in
-    let b3 : n / 256 / 256 / 256 % 256 ≡ d = ap (λ k. k % 256) n3 ∙ omega arith in
-    ap (bytes_of 4) is ∙ (λ i. b0 i ∷ b1 i ∷ b2 i ∷ b3 i ∷ [])
+-- the number that these bytes give, the lowest first
+abbrev number_in : List ℕ → ℕ
+number_in [] = 0
+number_in (b ∷ bs) = b + 256 * number_in bs
 
-short_written : (a b : ℕ) → a < 256 → b < 256 → le16 (a + b * 256) ≡ a ∷ b ∷ []
+-- a number's bytes are those it was read from
+bytes_again : (bs : List ℕ) → Bytes bs → bytes_of (length bs) (number_in bs) ≡ bs
 unfolding bytes_of
-short_written a b small-a small_b =
-    let low : (a + b * 256) % 256 ≡ a = omega arith in
-    let above : (a + b * 256) / 256 ≡ b = omega arith in
-    let high : (a + b * 256) / 256 % 256 ≡ b = ap (λ k. k % 256) above ∙ omega arith in
-    λ i. low i ∷ high i ∷ []
+bytes_again [] small = refl
+bytes_again (b ∷ bs) small =
+    let low : (b + 256 * number_in bs) % 256 ≡ b = omega (arith, small.0) in
+    let high : (b + 256 * number_in bs) / 256 ≡ number_in bs = omega (arith, small.0) in
+    let rest = ap (bytes_of (length bs)) high ∙ bytes_again bs small.1 in
+    λ i. low i ∷ rest i
+
+long_written : (a b c d : ℕ) → Bytes (a ∷ b ∷ c ∷ d ∷ []) → le32 (to_z w32 (a + b * 256 + c * 65536 + d * 16777216)) ≡ a ∷ b ∷ c ∷ d ∷ []
+long_written a b c d small =
+    let n = a + b * 256 + c * 65536 + d * 16777216 in
+    let below : n < 2 ^ 32 = omega (arith, small.0, small.1.0, small.1.1.0, small.1.1.1.0) in
+    let is : twos_complement (to_z w32 n) ≡ n = twos_complement_is (to_z w32 n) ∙ of_z-to_z w32 n below in
+    let same : n ≡ number_in (a ∷ b ∷ c ∷ d ∷ []) = omega arith in
+    ap (bytes_of 4) (is ∙ same) ∙ bytes_again (a ∷ b ∷ c ∷ d ∷ []) small
+
+short_written : (a b : ℕ) → Bytes (a ∷ b ∷ []) → le16 (a + b * 256) ≡ a ∷ b ∷ []
+short_written a b small =
+    let same : a + b * 256 ≡ number_in (a ∷ b ∷ []) = omega arith in
+    ap (bytes_of 2) same ∙ bytes_again (a ∷ b ∷ []) small
 
 long_first : (bytes : List ℕ) → 4 ≤ length bytes → Bytes bytes → le32 (long_at bytes 0) ≡ take 4 bytes
 long_first [] h small = absurd (omega arith)
 long_first (a ∷ []) h small = absurd (omega arith)
 long_first (a ∷ b ∷ []) h small = absurd (omega arith)
 long_first (a ∷ b ∷ c ∷ []) h small = absurd (omega arith)
-long_first (a ∷ b ∷ c ∷ d ∷ bytes) h small = long_written a b c d small.0 small.1.0 small.1.1.0 small.1.1.1.0
+long_first (a ∷ b ∷ c ∷ d ∷ bytes) h small = long_written a b c d (small.0, (small.1.0, (small.1.1.0, (small.1.1.1.0, tt))))
 
 short_first : (bytes : List ℕ) → 2 ≤ length bytes → Bytes bytes → le16 (short_at bytes 0) ≡ take 2 bytes
 unfolding bytes_of
 short_first [] h small = absurd (omega arith)
 short_first (a ∷ []) h small = absurd (omega arith)
-short_first (a ∷ b ∷ bytes) h small = short_written a b small.0 small.1.0
+short_first (a ∷ b ∷ bytes) h small = short_written a b (small.0, (small.1.0, tt))
 
 module _ (bytes : List ℕ) (small : Bytes bytes) where
   byte_on : (i j : ℕ) → get_or bytes (i + j) 0 ≡ get_or (drop i bytes) j 0
