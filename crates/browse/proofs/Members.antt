@@ -1,14 +1,14 @@
 -- The things of an accepted book are a tree: the root, and for each entry the node or pick that it names.
-use Rattle.std.proofs.Common.{◌≡◌, ℕ, ◌+◌, ◌<◌, ◌≤◌, Bool, true, false, cond, eqb, ◌⊎◌, length, sym, refl, ap, ◌∙◌, subst, inl, inr, ⊎_elim, arith}
+use Rattle.std.proofs.Common.{◌≡◌, ℕ, ◌+◌, ◌<◌, ◌≤◌, Bool, true, false, cond, eqb, ◌⊎◌, sym, refl, ap, ◌∙◌, subst, inl, inr, ⊎_elim, arith}
 use Rattle.std.specs.List.{AllByRecursion as All}
-use Rattle.std.proofs.lemmas.Bool.{true≢false, false≢true, cases_lt}
-use Rattle.std.proofs.lemmas.List.{get_or_past}
+use Rattle.std.proofs.lemmas.Bool.{true≢false, false≢true}
 use Rattle.geometry.specs.Within.{Within}
-use Rattle.book.specs.Model.{Model, node_count, level_of, places_of, place_count, place_of, no_node}
+use Rattle.book.specs.Model.{Model, node_count, level_of, places_of, place_of}
 use Rattle.book.specs.declared.place.Entry.{Entry}
 use Rattle.book_check.specs.declared.target.Target.TheVariants.{Pick as PickTarget, Child}
 use Rattle.book_check.specs.Targets.{target_at, target_of, root_of}
 use Rattle.book_check.specs.Accepted.{Accepted, Parent, Stands, InBook}
+use Rattle.book_check.proofs.Naming.{place_there, node_there}
 use Rattle.search.specs.Tree.{Tree, Sound}
 use Rattle.search.proofs.Tree.{Members, Ordered}
 use Rattle.browse.specs.declared.waiting.Class.{Class}
@@ -57,12 +57,7 @@ Member m far x = (x ≡ root_thing m) ⊎ Named m far x
 
 -- where an entry stands, there is a node
 pub in_range_lem : (m : Model) (n i : ℕ) (e : Entry) → Stands m n i e → n < node_count m
-in_range_lem m n i e s =
-    ⊎_elim (λ l. l)
-    (λ l.
-    let none : place_count m n ≡ 0 = ap (λ nd. length nd.places) (get_or_past m.nodes n no_node l) in
-    absurd (omega (arith, at_within (places_of m n) i e s, none)))
-    (cases_lt n (node_count m))
+in_range_lem m n i e s = node_there m n i (place_there m n i e s)
 
 module _ (m : Model) (far : Far) (acc : Accepted m) where
   pub full : (n : ℕ) → Full (places_of m n)

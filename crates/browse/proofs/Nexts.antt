@@ -1,5 +1,5 @@
 -- What `next` comes to, by what waits first.
-use Rattle.std.proofs.Common.{◌≡◌, ℕ, zero, suc, ◌+◌, ◌-◌, ◌<◌, ◌≤◌, Bool, cond, leb, List, [], ◌∷◌, length, Some, None, Ok, Err, Option, sym, refl, ap, ◌∙◌, arith}
+use Rattle.std.proofs.Common.{◌≡◌, ℕ, zero, suc, ◌+◌, ◌-◌, ◌<◌, ◌≤◌, Bool, cond, leb, List, [], ◌∷◌, length, Some, None, Ok, Err, Option, refl, ap, ◌∙◌, arith}
 use Rattle.refusal.specs.Told.{at_node}
 use Rattle.book.specs.Model.{Model, node_count, level_of, places_of}
 use Rattle.book.specs.declared.place.Entry.{Entry}
@@ -16,7 +16,7 @@ use Rattle.browse.specs.Broken.{can_open}
 use Rattle.browse.specs.Browse.{Reply, row, nothing, open_node, glance_at, glance, next_of}
 use Rattle.browse.specs.Desk.{opened_to}
 use Rattle.browse.specs.Opening.{kids_to_open}
-use Rattle.browse.proofs.Opens.{some_or_none, only_if_not, only_if_lem, can_open_says}
+use Rattle.browse.proofs.Opens.{only_if_not, only_if_lem, can_open_says}
 
 abbrev pub nearest : ℕ → Standing Thing → Option Thing
 nearest limit s = first_within (λ x. x.distance) limit s.waiting
@@ -53,7 +53,7 @@ module _ (m : Model) (far : Far) (limit : ℕ) (s : Standing Thing) where
     -- the glance at x, which is within the limit
     seen : (w : List Thing) → first_within (λ z. z.distance) limit w ≡ Some x →
         (w ≡ x ∷ behind w) × (glance_at m far limit s w ≡ cond (opens x.class) (open_node m far s x (behind w)) (done (Ok (told (row x) s.opened)) (tell_first s (behind w))))
-    seen [] e = absurd (some_or_none x (sym e))
+    seen [] e = absurd (cc (e))
     seen (y ∷ w) e =
         let k = only_if_lem (leb y.distance limit) y x e in (
           ap (λ z. z ∷ w) k.1,

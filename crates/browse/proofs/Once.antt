@@ -39,7 +39,7 @@ child_target : (level j k : ℕ) → target_at level j ≡ Child k → (class_at
 child_target level j k = at (eqb level 0)
   where
     at : (b : Bool) → cond b (PickTarget j) (Child j) ≡ Child k → (cond b Pick Node ≡ Node) × (j ≡ k)
-    at true e = let z : ◌≡◌ {A = ℕ} 0 1 = cc (e) in absurd (omega (arith, z))
+    at true e = absurd (cc (e))
     at false e = (refl, cc (e))
 
 module _ (m : Model) (far : Far) (acc : Accepted m) where

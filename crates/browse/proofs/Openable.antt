@@ -10,14 +10,14 @@ use Rattle.browse.specs.Thing.{Thing, opens}
 use Rattle.browse.specs.Tree.{Far, class_at, kids_as, tree_of}
 use Rattle.browse.specs.Broken.{right_target, sound_place, sound_places, can_open}
 use Rattle.browse.specs.Law.{Monotone}
-use Rattle.browse.proofs.Places.{At, Full, spoilt_filled, length_full}
+use Rattle.browse.proofs.Places.{At, Full, length_full}
 use Rattle.browse.proofs.Members.{Member, opens_node, full, pick_in_book, child_in_book, child_lower, outward, book_members}
 use Rattle.browse.proofs.Once.{nodes_met, few_met}
 
 all_sound : (m : Model) (far : Far) (level d : ℕ) (ps : List (Option Entry)) → Full ps → ((j : ℕ) (e : Entry) → At ps j e → sound_place m far level d (Some e) ≡ true) →
     sound_places m far level d ps ≡ true
 all_sound m far level d [] h k = refl
-all_sound m far level d (None ∷ ps) h k = let r = h 0 (omega arith) in absurd (spoilt_filled r.0 r.1)
+all_sound m far level d (None ∷ ps) h k = let r = h 0 (omega arith) in absurd (cc (r.1))
 all_sound m far level d (Some e ∷ ps) h k =
     and_from (sound_place m far level d (Some e)) (sound_places m far level d ps) (k 0 e refl)
     (all_sound m far level d ps (λ i l. h (suc i) (omega arith)) (λ j e a. k (suc j) e a))

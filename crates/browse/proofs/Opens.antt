@@ -1,5 +1,5 @@
 -- The three things that a node must meet to be opened.
-use Rattle.std.proofs.Common.{◌≡◌, ℕ, ◌+◌, ◌<◌, ◌≤◌, Bool, true, false, ◌&&◌, ltb, leb, length, Some, None, sym, refl, ap, true≢false, arith}
+use Rattle.std.proofs.Common.{◌≡◌, ◌+◌, ◌<◌, ◌≤◌, Bool, true, false, ◌&&◌, ltb, leb, length, Some, None, sym, refl, ap, true≢false}
 use Rattle.std.proofs.lemmas.Bool.{ltb-true, lt-ltb, le-ltb, leb-true, le-leb, lt-leb}
 use Rattle.book.specs.Model.{Model, node_count, level_of, places_of, place_count}
 use Rattle.search.specs.Search.{Standing}
@@ -8,16 +8,13 @@ use Rattle.browse.specs.Tree.{Far, class_at, things}
 use Rattle.browse.specs.Broken.{sound_places, can_open}
 use Rattle.browse.specs.Opening.{only_if, sound_kids, kids_to_open}
 
-pub some_or_none : {A : Type 0} (a : A) → Some a ≡ None → ⊥
-some_or_none a e = let z : ◌≡◌ {A = ℕ} 0 1 = cc in omega arith
-
 pub only_if_not : {A : Type 0} (b : Bool) (a : A) → only_if b a ≡ None → b ≡ false
-only_if_not true a e = absurd (some_or_none a e)
+only_if_not true a e = absurd (cc (e))
 only_if_not false a e = refl
 
 pub only_if_lem : {A : Type 0} (b : Bool) (a c : A) → only_if b a ≡ Some c → (b ≡ true) × (a ≡ c)
 only_if_lem true a c e = let f : a ≡ c = cc in (refl, f)
-only_if_lem false a c e = absurd (some_or_none c (sym e))
+only_if_lem false a c e = absurd (cc (e))
 
 module _ (m : Model) (far : Far) (s : Standing Thing) (x : Thing) where
   abbrev sound : Bool

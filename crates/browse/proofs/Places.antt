@@ -16,12 +16,9 @@ At ps i e = get_or ps i None ≡ Some e
 abbrev pub Full : List (Option Entry) → Type 0
 Full ps = (i : ℕ) → i < length ps → (e : Entry) × At ps i e
 
-pub spoilt_filled : (e : Entry) → None ≡ Some e → ⊥
-spoilt_filled e h = let z : ◌≡◌ {A = ℕ} 0 1 = cc (h) in omega (arith, z)
-
 -- where an entry stands, there is a place
 pub at_within : (ps : List (Option Entry)) (i : ℕ) (e : Entry) → At ps i e → i < length ps
-at_within [] i e h = absurd (spoilt_filled e h)
+at_within [] i e h = absurd (cc (h))
 at_within (p ∷ ps) zero e h = omega arith
 at_within (p ∷ ps) (suc i) e h = omega (arith, at_within ps i e h)
 
@@ -50,7 +47,7 @@ module _ (far : Far) (c : Class) where
 
   pub length_full : (ps : List (Option Entry)) → Full ps → length (things far c ps) ≡ length ps
   length_full [] h = refl
-  length_full (None ∷ ps) h = let r = h 0 (omega arith) in absurd (spoilt_filled r.0 r.1)
+  length_full (None ∷ ps) h = let r = h 0 (omega arith) in absurd (cc (r.1))
   length_full (Some e ∷ ps) h = omega (arith, length_full ps (λ i l. h (suc i) (omega arith)))
 
   -- a sum over the things, by the places

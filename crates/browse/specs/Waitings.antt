@@ -5,7 +5,7 @@ use Rattle.std.proofs.lemmas.List.{length-map, length-take-le}
 use Rattle.std.proofs.lemmas.Bool.{lt-ltb, ltb-true}
 use Rattle.std.proofs.lemmas.Bool.Decides.{nat_tests}
 use Rattle.queue.specs.Order.{TotalOrder}
-use Rattle.queue.specs.Heap.{queued, behind}
+use Rattle.queue.specs.Heap.{queued}
 use Rattle.queue.specs.Sorted.{insert as put}
 use Rattle.queue.specs.Orders.{key_order}
 use Rattle.queue.proofs.Sorting.{length_sorted}
@@ -90,14 +90,6 @@ module _ (x : Waiting) where
       by : came_before (x.arrival + 1) (put sooner x l) ≡ true → (b : Bool) → came_before (x.arrival + 1) (cond b (y ∷ put sooner x l) (x ∷ y ∷ l)) ≡ true
       by e true = λ i. (came (nat_lt y.arrival (x.arrival + 1)) (came_before (x.arrival + 1) l) here).0 i && e i
       by e false = λ i. lt-ltb x.arrival (x.arrival + 1) (omega arith) i && here i
-
-pub came_behind : (n : ℕ) (l : List Waiting) → came_before n l ≡ true → came_before n (behind l) ≡ true
-came_behind n [] h = h
-came_behind n (y ∷ l) h = (came _ _ h).1
-
-pub map_behind : (l : List Waiting) → map thing_of (behind l) ≡ behind (map thing_of l)
-map_behind [] = refl
-map_behind (y ∷ l) = refl
 
 pub length_waiting : (n : ℕ) (xs : List Waiting) → n ≤ length xs → length (map thing_of (queued sooner n xs)) ≡ n
 length_waiting n xs h = length-map (queued sooner n xs) thing_of ∙ length_sorted sooner (take n xs) ∙ length-take-le n xs h

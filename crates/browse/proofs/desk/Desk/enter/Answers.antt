@@ -1,4 +1,4 @@
-use Rattle.std.proofs.Common.{◌+◌, ◌<◌, map, length, refl, ap, ◌∙◌, arith}
+use Rattle.std.proofs.Common.{◌+◌, ◌<◌, map, length, ap, ◌∙◌, arith}
 use Rattle.queue.specs.Heap.{queued}
 use Rattle.browse.specs.declared.waiting.Waiting.{Waiting}
 use Rattle.browse.specs.declared.desk.Desk.{Desk}
@@ -11,17 +11,15 @@ use Rattle.browse.proofs.desk.Desk.enter.Goals as goal
 abbrev newcomer : Waiting → Desk → Waiting
 newcomer kid s = record { distance = kid.distance; class = kid.class; number = kid.number; arrival = s.arrivals; top = kid.top }
 
-pub invariant_of-self : goal.invariant_of-self
-invariant_of-self c =
+pub invariant_of-self-clause-fresh : goal.invariant_of-self-clause-fresh
+invariant_of-self-clause-fresh c =
     let s = c.args.self.now in
     let room : s.used < length s.table = omega arith in
-    let p = c.push.ensures in
-    let fresh = ap (came_before (s.arrivals + 1)) (p.queue room) ∙ came_entered (newcomer c.args.kid s) (queued sooner s.used s.table) s.fresh in
-    record { whole = omega arith; within = omega arith; heaped = p.heaped room s.heaped; few = s.few; grown = omega arith; counted = omega arith; fresh = fresh }
+    ap (came_before (s.arrivals + 1)) (c.push.ensures.queue room) ∙ came_entered (newcomer c.args.kid s) (queued sooner s.used s.table) s.fresh
 
-pub returns : goal.returns
-returns c =
+pub returns-clause-standing : goal.returns-clause-standing
+returns-clause-standing c =
     let s = c.args.self.now in
     let room : s.used < length s.table = omega arith in
     let e = ap (map thing_of) (c.push.ensures.queue room) ∙ entered (newcomer c.args.kid s) (queued sooner s.used s.table) s.fresh in
-    record { standing = λ i. record { waiting = e i; opened = s.opened; told = s.told }; used = refl; arrivals = refl }
+    λ i. record { waiting = e i; opened = s.opened; told = s.told }
