@@ -28,6 +28,7 @@ pub struct Waiting {
 /// What a node's entries name, lower place first. A node has at most 16 places.
 pub(crate) type Kids = ArrayVec<Waiting, 16>;
 
+// Tops are ordered by this number and not by themselves, as `sooner` is defined.
 fn top_number(top: i32) -> u64
     ensures { result ≡ top_number top }
 {

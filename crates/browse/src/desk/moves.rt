@@ -56,7 +56,7 @@ impl Desk {
         heap::first(&self.table, self.used).filter(|first| first.distance <= limit)
     }
 
-    // The first waits no more.
+    // The first waits no more. That something waits is asked of each call, since no type can hold what calls change.
     fn drop_first(&mut self)
         requires { 0 < length (standing self.old).waiting }
         ensures standing { standing self.new ≡ without_first (standing self.old) }
