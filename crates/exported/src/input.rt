@@ -1,7 +1,7 @@
 //! The book in the bytes, and the boxes of the queries.
 
 ghost use Rattle.std.specs.Prelude.{◌≡◌, Ok, MatchResult};
-ghost use Rattle.book_check.specs.Accepted.{Accepted};
+ghost use Rattle.book_check.specs.Checked.{checked};
 ghost use Rattle.loaded.specs.Loaded.{loaded_model};
 ghost use Rattle.exported.specs.Input.{picks_in, book_in, boxes_of, asked_for};
 ghost use Rattle.exported.specs.Outcome.{FaultOf};
@@ -18,7 +18,7 @@ use std::alloc::Global;
 pub(crate) struct Held {
     pub(crate) book: Loaded,
     pub(crate) picks: u16,
-    ghost accepted: { Accepted (loaded_model book) },
+    ghost accepted: { checked (loaded_model book) ≡ Ok picks },
 }
 
 /// The book in the file.

@@ -52,25 +52,25 @@ fn tell<M: Measure>(browse: &mut Browse<Loaded, M>, rows: &mut [ToldRow]) -> usi
 
 /// Opens a browse and tells as many rows as the slice has places, or all there are. The book comes back.
 fn first_rows<M: Measure + Copy>(
-    book: Loaded,
+    held: Held,
     measure: M,
     query: Bounds,
     rows: &mut [ToldRow],
-) -> (Loaded, usize)
-    requires { Accepted (loaded_model book) }
-    ensures book { result.0 ≡ book }
-    ensures count { result.1 ≡ length (take (length rows.old) (ranking (loaded_model book) (M.Measure.distance measure query))) }
-    ensures rows { rows.new ≡ laid (take (length rows.old) (ranking (loaded_model book) (M.Measure.distance measure query))) rows.old }
+) -> (Held, usize)
+    ensures book { result.0.book ≡ held.book }
+    ensures count { result.1 ≡ length (take (length rows.old) (ranking (loaded_model held.book) (M.Measure.distance measure query))) }
+    ensures rows { rows.new ≡ laid (take (length rows.old) (ranking (loaded_model held.book) (M.Measure.distance measure query))) rows.old }
 {
+    let Held { book, picks } = held;
     let mut browse = Browse::open(book, measure, query);
     let told = tell(&mut browse, rows);
     let (book, _) = browse.close();
-    (book, told)
+    (Held { book, picks }, told)
 }
 
 /// The first rows of each query, one after another, as many as the slice has places for; how many.
 pub(crate) fn tell_all<M: Measure + Copy>(
-    held: Held,
+    mut held: Held,
     measure: M,
     queries: &[Bounds],
     each: usize,
@@ -79,12 +79,11 @@ pub(crate) fn tell_all<M: Measure + Copy>(
     ensures count { result ≡ length (take (length rows.old) (first_rows (M.Measure.distance measure) (loaded_model held.book) each queries.now)) }
     ensures rows { rows.new ≡ laid (take (length rows.old) (first_rows (M.Measure.distance measure) (loaded_model held.book) each queries.now)) rows.old }
 {
-    let Held { mut book, .. } = held;
     let mut told = 0;
     for query in queries {
         let end = told + each.min(rows.len() - told);
-        let (same, count) = first_rows(book, measure, *query, &mut rows[told..end]);
-        book = same;
+        let (same, count) = first_rows(held, measure, *query, &mut rows[told..end]);
+        held = same;
         told += count;
     }
     told

@@ -1,17 +1,10 @@
-use Rattle.std.proofs.Common.{◌+◌, set, Some, None, sym, refl, ap, ◌∙◌, subst, arith}
+use Rattle.std.proofs.Common.{rules, ◌+◌, slice_set, Some, None, sym, ap, ◌∙◌, subst}
+use Rattle.std.proofs.lemmas.List.{set-get_or}
 use Rattle.loaded.specs.Loaded.{loaded_model}
 use Rattle.browse.specs.Desk.{standing}
 use Rattle.exported.specs.Following.{Follows}
-use Rattle.exported.proofs.Fronts.{Telling, begins, tells_more, ends_full, ends_short}
+use Rattle.exported.proofs.Fronts.{Telling, tells_more, ends_short}
 use Rattle.exported.proofs.telling.tell.Goals as goal
-
-pub loop-told-init : goal.loop-told-init
-loop-told-init g c =
-    let b = c.args.browse.now in (
-      begins (loaded_model b.view.book) (g.M.Measure.distance b.view.measure b.view.query) c.args.rows.now (standing b.desk) c.requires.opening,
-      refl,
-      omega arith,
-    )
 
 pub loop-told-preserved : goal.loop-told-preserved
 loop-told-preserved g c =
@@ -26,18 +19,10 @@ loop-told-preserved g c =
     let f : Follows (loaded_model lp.view.book) (d lp.view.measure lp.view.query) s (Some r) t = c.in-Some.ensures.follows in
     let f : Follows m (d b.view.measure b.view.query) s (Some r) t = subst (λ v. Follows (loaded_model v.book) (d v.measure v.query) s (Some r) t) k.1 f in
     let before = c.args.rows.now in
-    let more = tells_more m (d b.view.measure b.view.query) before s t c.loop-told.rows c.loop-told.told k.0 r c.requires.accepted f (omega arith) in (
-      subst (λ y. Telling m (d b.view.measure b.view.query) t before (set c.loop-told.rows c.loop-told.told y) (c.loop-told.told + 1)) (sym c.told_row.ensures) more,
+    let more = tells_more m (d b.view.measure b.view.query) before s t c.loop-told.rows c.loop-told.told k.0 r c.requires.accepted f (search rules) in (
+      subst (λ y. Telling m (d b.view.measure b.view.query) t before (slice_set c.loop-told.rows c.loop-told.told y) (c.loop-told.told + 1)) (sym c.from.ensures) more,
       c.next_row.ensures.parts ∙ k.1,
-      omega arith,
     )
-
-pub returns-after-loop-told : goal.returns-after-loop-told
-returns-after-loop-told g c =
-    let b = c.args.browse.now in
-    let k = c.loop-told.invariant in
-    let e = ends_full (loaded_model b.view.book) (g.M.Measure.distance b.view.measure b.view.query) c.args.rows.now (standing c.loop-told.browse.desk) (standing c.loop-told.browse.desk) c.loop-told.rows c.loop-told.told k.0 (omega arith) k.2 in
-    record { book = ap (λ v. v.book) k.1; count = e.0; rows = e.1 }
 
 pub returns-in_default : goal.returns-in_default
 returns-in_default g c =
@@ -50,5 +35,5 @@ returns-in_default g c =
     let t = standing c.next_row.new.browse.desk in
     let f : Follows (loaded_model lp.view.book) (d lp.view.measure lp.view.query) s None t = c.in_default.ensures.follows in
     let f : Follows m (d b.view.measure b.view.query) s None t = subst (λ v. Follows (loaded_model v.book) (d v.measure v.query) s None t) k.1 f in
-    let e = ends_short m (d b.view.measure b.view.query) c.args.rows.now s t c.loop-told.rows c.loop-told.told k.0 c.requires.accepted (g.met.M.Measure.fits b.view.measure b.view.query) f k.2 in
-    record { book = ap (λ v. v.book) (c.next_row.ensures.parts ∙ k.1); count = e.0; rows = e.1 }
+    let e = ends_short m (d b.view.measure b.view.query) c.args.rows.now s t c.loop-told.rows c.loop-told.told k.0 c.requires.accepted (g.met.M.Measure.fits b.view.measure b.view.query) f (search rules) in
+    record { book = ap (λ v. v.book) (c.next_row.ensures.parts ∙ k.1); count = e.0; rows = set-get_or _ _ _ ∙ e.1 }

@@ -1,4 +1,4 @@
-use Rattle.std.proofs.Common.{◌≡◌, ◌-◌, ◌≤◌, length}
+use Rattle.std.proofs.Common.{◌≡◌}
 use Rattle.loaded.specs.Loaded.{loaded_model}
 use Rattle.browse.specs.Desk.{standing}
 use Rattle.exported.proofs.Fronts.{Telling}
@@ -8,7 +8,4 @@ abbrev pub invariant-loop-told : goal.invariant-loop-told
 invariant-loop-told g l =
     let b = l.initial.browse in
     Telling (loaded_model b.view.book) (g.M.Measure.distance b.view.measure b.view.query) (standing l.browse.desk) l.initial.rows l.rows l.told
-    × (l.browse.view ≡ b.view) × (l.told ≤ length l.initial.rows)
-
-abbrev pub decreases-loop-told : goal.decreases-loop-told
-decreases-loop-told g l = length l.initial.rows - l.told
+    × (l.browse.view ≡ b.view)

@@ -1,15 +1,10 @@
-use Rattle.std.proofs.Common.{◌≡◌, ℕ, ◌+◌, ◌-◌, ◌≤◌, min, length, take, sym, refl, ap, ◌∙◌, subst, arith, rules}
+use Rattle.std.proofs.Common.{◌≡◌, ℕ, ◌+◌, ◌-◌, min, length, take, sym, ap, ◌∙◌, arith, rules}
 use borrow.Rule.Slice.PartMut.{mid_of}
-use Rattle.book_check.specs.Accepted.{Accepted}
 use Rattle.loaded.specs.Loaded.{loaded_model}
 use Rattle.browse.specs.Law.{ranking}
 use Rattle.exported.specs.Rows.{laid}
-use Rattle.exported.proofs.Laying.{none_laid, lays_more, room_left, all_laid}
+use Rattle.exported.proofs.Laying.{lays_more, room_left}
 use Rattle.exported.proofs.telling.tell_all.Goals as goal
-
-pub loop-query-init : goal.loop-query-init
-loop-query-init g c =
-    (none_laid (g.M.Measure.distance c.args.measure) (loaded_model c.args.book) c.args.each c.args.queries.now c.args.rows.now, refl, omega arith)
 
 -- as many as are asked for, or as there is room for
 least-is : (told r each long room : ℕ) → r ≡ min each (long - told) → long ≡ room → told + r - told ≡ min each (room - told)
@@ -18,7 +13,7 @@ least-is told r each long room e f = let g : told + r - told ≡ r = omega arith
 pub loop-query-preserved : goal.loop-query-preserved
 loop-query-preserved g c =
     let far = g.M.Measure.distance c.args.measure in
-    let m = loaded_model c.args.book in
+    let m = loaded_model c.args.held.book in
     let l = c.loop-query in
     let q = c.query-item.result in
     let before = c.args.rows.now in
@@ -32,28 +27,4 @@ loop-query-preserved g c =
     c.loop-query-test.true (sym c.query-item.is) k least c.first_rows-same.new.rows c.first_rows-same.result.1 count rows in
     let room = room_left far m c.args.each c.args.queries.now before l.query-index l.rows l.told l.invariant.0 q q
     c.loop-query-test.true (sym c.query-item.is) k least c.first_rows-same.result.1 count l.invariant.2 in
-    (search rules, e.book ∙ l.invariant.1, search rules)
-
-pub first_rows-same-requires : goal.first_rows-same-requires
-first_rows-same-requires g c = subst (λ b. Accepted (loaded_model b)) (sym c.loop-query.invariant.1) c.requires
-
-pub overflow_add-told : goal.overflow_add-told
-overflow_add-told g c =
-    let far = g.M.Measure.distance c.args.measure in
-    let l = c.loop-query in
-    let q = c.query-item.result in
-    let before = c.args.rows.now in
-    let k = l.told + c.min.result - l.told in
-    let least : k ≡ min c.args.each (length before - l.told) = least-is l.told c.min.result c.args.each (length l.rows) (length before) c.min.ensures l.auto.rows in
-    let le : l.told + c.first_rows-same.result.1 ≤ length before =
-    room_left far (loaded_model c.args.book) c.args.each c.args.queries.now before l.query-index l.rows l.told l.invariant.0 q q
-    c.loop-query-test.true (sym c.query-item.is) k least c.first_rows-same.result.1
-    (c.first_rows-same.ensures.count ∙ ap (λ b. length (take (length (mid_of l.told k l.rows)) (ranking (loaded_model b) (far q)))) l.invariant.1) l.invariant.2 in
-    search rules
-
-pub returns : goal.returns
-returns g c =
-    let e =
-    all_laid (g.M.Measure.distance c.args.measure) (loaded_model c.args.book) c.args.each c.args.queries.now c.args.rows.now
-    c.loop-query.query-index c.loop-query.rows c.loop-query.told c.loop-query.invariant.0 c.loop-query-test.false in
-    record { count = e.0; rows = e.1 }
+    (more, e.book ∙ l.invariant.1, room)
