@@ -1,4 +1,3 @@
 pub mod Fronts
 pub mod Boxes
-pub mod Books
 pub mod Laying

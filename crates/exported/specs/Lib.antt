@@ -1,4 +1,3 @@
 pub mod Outcome
 pub mod Input
 pub mod Rows
-pub mod Following

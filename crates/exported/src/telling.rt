@@ -8,7 +8,6 @@ ghost use Rattle.browse.specs.Browse.{opening, next_reply};
 ghost use Rattle.browse.specs.Desk.{standing};
 ghost use Rattle.browse.specs.Law.{ranking, answer_in};
 ghost use Rattle.exported.specs.Rows.{laid, first_rows};
-ghost use Rattle.exported.specs.Following.{Follows};
 
 use crate::crossing::ToldRow;
 use crate::input::Held;
@@ -19,18 +18,11 @@ use geometry::measure::Measure;
 use loaded::loaded::Loaded;
 use refusal::hands::TreeFault;
 
+/// The row that is told, if one is.
 fn row_found(found: Result<Found, TreeFault>) -> Option<Row>
     ensures { result ≡ row_in (answer_in (next_reply found)) }
 {
     found.ok()?.row
-}
-
-/// The next row of the ranking, if one is left.
-fn next_row<M: Measure>(browse: &mut Browse<Loaded, M>) -> Option<Row>
-    ensures parts { browse.new.view ≡ browse.old.view }
-    ensures follows { Follows (loaded_model browse.old.view.book) (M.Measure.distance browse.old.view.measure browse.old.view.query) (standing browse.old.desk) result (standing browse.new.desk) }
-{
-    row_found(browse.next(u64::MAX))
 }
 
 /// Tells as many rows as the slice has places, or all there are; how many.
@@ -42,7 +34,7 @@ fn tell<M: Measure>(browse: &mut Browse<Loaded, M>, rows: &mut [ToldRow]) -> usi
     ensures rows { rows.new ≡ laid (take (length rows.old) (ranking (loaded_model browse.old.view.book) (M.Measure.distance browse.old.view.measure browse.old.view.query))) rows.old }
 {
     for (told, place) in rows.iter_mut().enumerate() {
-        let Some(row) = next_row(browse) else {
+        let Some(row) = row_found(browse.next(u64::MAX)) else {
             return told;
         };
         *place = ToldRow::from(row);
