@@ -38,6 +38,8 @@ fn nearest<M: Measure + Copy>(
     Ok(tell_all(held, measure, &queries, each, rows))
 }
 
+// C has no type parameters: one function for each measure.
+
 /// Of each query, one after another, the first so many rows of the ranking by the Euclidean measure, as many as there are
 /// places for.
 #[unsafe(no_mangle)]
