@@ -20,15 +20,10 @@ impl From<QueryPoint> for Point {
     ghost from_gives = { λ query point. point ≡ point_of query };
 
     fn from(query: QueryPoint) -> Point {
-        let QueryPoint {
-            easting,
-            northing,
-            level,
-        } = query;
         Point {
-            easting,
-            northing,
-            level,
+            easting: query.easting,
+            northing: query.northing,
+            level: query.level,
         }
     }
 }
