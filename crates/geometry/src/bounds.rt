@@ -18,6 +18,15 @@ pub struct Point {
     pub level: i32,
 }
 
+impl Point {
+    /// The point where all three numbers are 0.
+    pub const ORIGIN: Point = Point {
+        easting: 0,
+        northing: 0,
+        level: 0,
+    };
+}
+
 /// The coordinates from `low` to `high`, both included: one axis of a box.
 #[derive(Clone, Copy, PartialEq, Eq, Debug)]
 pub struct Span {
