@@ -15,7 +15,6 @@ use day_sheet::row::Row;
 use day_sheet::shortlist::shortlist;
 use geometry::bounds::{Bounds, Point};
 use geometry::choice::Choice;
-use refusal::hands::SliceFault;
 use refusal::refusal::Refusal;
 use std::alloc::Global;
 use std::io;
@@ -65,12 +64,11 @@ fn agrees_on_another(heap: Global, chance: &mut Chance, choice: Choice) -> anyho
     agrees(heap, chance, choice, &before[0..size], &mut sheet[0..size])
 }
 
-fn say(rt: &impl Print, what: &str, told: Result<usize, SliceFault>) -> io::Result<()> {
+fn say(rt: &impl Print, what: &str, told: Result<usize, Refusal>) -> io::Result<()> {
     match told {
         Ok(count) => println!(rt; "{what}: {count} rows"),
-        Err(fault) => {
+        Err(refusal) => {
             // Not by the refusal's own Display, which calls a place an entry, as the console does.
-            let refusal = Refusal::from(fault);
             let number = refusal.number();
             match refusal.place() {
                 Some(place) => println!(rt; "{what}: refused {number} place {place}"),
@@ -81,12 +79,10 @@ fn say(rt: &impl Print, what: &str, told: Result<usize, SliceFault>) -> io::Resu
 }
 
 // A shortlist of records at the origin, but for the level of the third.
-fn attempt(k: usize, records: usize, rows: usize, level: i32) -> Result<usize, SliceFault>
+fn attempt(k: usize, records: usize, rows: usize, level: i32) -> Result<usize, Refusal>
     requires { (records ≤ 257) × (rows ≤ 33) }
 {
-    let Ok(query) = Bounds::at(ORIGIN) else {
-        return Ok(0);
-    };
+    let query = Bounds::at(ORIGIN)?;
     let mut sheet = [Record {
         kind: 2,
         point: ORIGIN,
@@ -94,13 +90,14 @@ fn attempt(k: usize, records: usize, rows: usize, level: i32) -> Result<usize, S
     }; 257];
     sheet[2].point.level = level;
     let mut answer = [BLANK; 33];
-    shortlist(
+    let told = shortlist(
         &mut sheet[0..records],
         &query,
         &Choice::Manhattan,
         k,
         &mut answer[0..rows],
-    )
+    )?;
+    Ok(told)
 }
 
 // Sheets and slices that are refused, and some that are just lawful.

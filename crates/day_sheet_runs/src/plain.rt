@@ -48,12 +48,9 @@ impl Expected {
 
     /// Whether the rows told are these, and the others as they were.
     pub(crate) fn has_rows(&self, answer: &[Row]) -> bool {
-        match answer.split_at_checked(self.rows.len()) {
-            Some((told, others)) => {
-                told == self.rows.as_slice() && others.iter().all(|row| *row == BLANK)
-            }
-            None => false,
-        }
+        answer.split_at_checked(self.rows.len()).is_some_and(|(told, others)| {
+            told == self.rows.as_slice() && others.iter().all(|row| *row == BLANK)
+        })
     }
 
     fn lists(&self, place: u8) -> bool {

@@ -7,7 +7,7 @@ ghost use Rattle.file.specs.Pen.{HasRoom, wrote};
 use geometry::bounds::Point;
 
 /// The caller's bytes, and how many of them are written over. The next piece begins behind these.
-// The pen tests no room: `write_out` has tested the length of the whole file before the first piece is put.
+// no test of room: each of the thirteen puts would answer a Result for a case that `write_out` has ruled out, no plainer
 #[derive(Drop)]
 pub(crate) struct Pen<'a> {
     page: &'a mut [u8],

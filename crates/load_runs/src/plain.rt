@@ -6,7 +6,15 @@ use book::book::Book;
 use book::place::Entry;
 use geometry::bounds::Bounds;
 use loaded::loaded::Loaded;
-use refusal::hands::FileFault;
+
+/// Why a file is unlawful, with the number that the file form gives it.
+#[derive(Clone, Copy, PartialEq, Eq, Debug)]
+pub(crate) enum Unlawful {
+    Length = 1,
+    Count = 2,
+    Nodes = 3,
+    Kind = 4,
+}
 
 /// The records of a lawful file.
 #[derive(Clone, Copy)]
@@ -17,13 +25,13 @@ pub(crate) struct Records<'a> {
 }
 
 // A count from `least` to `most`, and the bytes behind it.
-fn count(bytes: &[u8], least: u16, most: u16) -> Result<(usize, &[u8]), FileFault> {
-    let (number, rest) = bytes.split_first_chunk().ok_or(FileFault::Length)?;
+fn count(bytes: &[u8], least: u16, most: u16) -> Result<(usize, &[u8]), Unlawful> {
+    let (number, rest) = bytes.split_first_chunk().ok_or(Unlawful::Length)?;
     let number = u16::from_le_bytes(*number);
     if least <= number && number <= most {
         Ok((usize::from(number), rest))
     } else {
-        Err(FileFault::Count)
+        Err(Unlawful::Count)
     }
 }
 
@@ -31,22 +39,22 @@ fn count(bytes: &[u8], least: u16, most: u16) -> Result<(usize, &[u8]), FileFaul
 fn section<const SIZE: usize>(
     bytes: &[u8],
     count: usize,
-) -> Result<(&[[u8; SIZE]], &[u8]), FileFault>
+) -> Result<(&[[u8; SIZE]], &[u8]), Unlawful>
     requires { (0 < SIZE) × (SIZE < 2 ^ 63) }
 {
     let (records, rest) = bytes
         .split_at_checked(count.saturating_mul(SIZE))
-        .ok_or(FileFault::Length)?;
+        .ok_or(Unlawful::Length)?;
     Ok((records.as_chunks().0, rest))
 }
 
 // The places of all nodes together.
-fn places(nodes: &[[u8; 4]]) -> Result<usize, FileFault> {
+fn places(nodes: &[[u8; 4]]) -> Result<usize, Unlawful> {
     let mut sum = 0usize;
     for [level, places, low, high] in nodes {
         let first = u16::from_le_bytes([*low, *high]);
         if *level > 7 || *places > 16 || usize::from(first) != sum {
-            return Err(FileFault::Nodes);
+            return Err(Unlawful::Nodes);
         }
         sum = sum.saturating_add(usize::from(*places));
     }
@@ -54,22 +62,22 @@ fn places(nodes: &[[u8; 4]]) -> Result<usize, FileFault> {
 }
 
 /// The records of a file, or why it is unlawful.
-pub(crate) fn decoded(bytes: &[u8]) -> Result<Records<'_>, FileFault> {
+pub(crate) fn decoded(bytes: &[u8]) -> Result<Records<'_>, Unlawful> {
     let (many, rest) = count(bytes, 1, 512)?;
     let (nodes, rest) = section(rest, many)?;
     let sum = places(nodes)?;
     let (many, rest) = count(rest, 0, 2_048)?;
     if many != sum {
-        return Err(FileFault::Nodes);
+        return Err(Unlawful::Nodes);
     }
     let (entries, rest) = section(rest, many)?;
     let (many, rest) = count(rest, 0, 2_048)?;
-    let (kinds, rest) = rest.split_at_checked(many).ok_or(FileFault::Length)?;
+    let (kinds, rest) = rest.split_at_checked(many).ok_or(Unlawful::Length)?;
     if !kinds.iter().all(|kind| (1..=5).contains(kind)) {
-        return Err(FileFault::Kind);
+        return Err(Unlawful::Kind);
     }
     if !rest.is_empty() {
-        return Err(FileFault::Length);
+        return Err(Unlawful::Length);
     }
     Ok(Records {
         nodes,

@@ -27,10 +27,7 @@ pub struct Begun {
 pub(crate) fn bytes_of(heap: Global, read: io::Result<Vec<u8>>) -> Vec<u8>
     ensures { MatchResult read (λ bytes. result.items ≡ bytes.items) (λ _. result.items ≡ []) }
 {
-    match read {
-        Ok(bytes) => bytes,
-        Err(_) => Vec::new(heap),
-    }
+    read.unwrap_or_else(|_| Vec::new(heap))
 }
 
 /// Loads and checks the book in these bytes.

@@ -5,7 +5,7 @@
 
 mod paper;
 
-use crate::paper::{Pick, Size};
+use crate::paper::{Heading, Pick};
 use anyhow::Context;
 use book::book::Book;
 use file::write_out::write_out;
@@ -40,7 +40,7 @@ fn equal_bytes(a: &[u8], b: &[u8]) -> usize {
 }
 
 fn print_book(rt: &HostRuntime, book: &Loaded, bytes: &[u8]) -> anyhow::Result<()> {
-    rt.println(Size::of(book))?;
+    rt.println(Heading(book))?;
     for node in 0..book.node_count() {
         if book.level(node) == 0 {
             print_leaf(rt, book, node)?;
@@ -61,8 +61,7 @@ fn print_book(rt: &HostRuntime, book: &Loaded, bytes: &[u8]) -> anyhow::Result<(
 }
 
 fn print_size<B: Book>(rt: &HostRuntime, what: &str, book: &B) -> anyhow::Result<()> {
-    let size = Size::of(book);
-    println!(rt; "{what}: {size}")?;
+    println!(rt; "{what}: {}", Heading(book))?;
     Ok(())
 }
 

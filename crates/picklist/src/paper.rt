@@ -10,30 +10,16 @@ use book::place::Entry;
 use level::level::show::Hundredths;
 use std::fmt;
 
-/// How large a book is.
+/// A book, printed by how large it is.
 #[derive(Clone, Copy)]
-pub struct Size {
-    pub nodes: u16,
-    pub picks: u16,
-}
+pub struct Heading<'a, B>(pub &'a B);
 
-impl Size {
-    pub fn of<B: Book>(book: &B) -> Size
-        ensures nodes { result.nodes ≡ node_count (B.Book.model book.now) }
-        ensures picks { result.picks ≡ pick_limit (B.Book.model book.now) }
-    {
-        Size {
-            nodes: book.node_count(),
-            picks: book.pick_limit(),
-        }
-    }
-}
-
-impl fmt::Display for Size {
-    ghost output = { λ size. Some (book_line size.nodes size.picks) };
+impl<B: Book> fmt::Display for Heading<'_, B> {
+    ghost output = { λ heading. Some (book_line (node_count (B.Book.model heading.0.now)) (pick_limit (B.Book.model heading.0.now))) };
 
     fn fmt<W: fmt::Write>(&self, f: &mut fmt::Formatter<W>) -> fmt::Result {
-        let Size { nodes, picks } = *self;
+        let nodes = self.0.node_count();
+        let picks = self.0.pick_limit();
         write!(f, "book of {nodes} nodes and {picks} picks")
     }
 }
