@@ -18,6 +18,7 @@ pub(crate) fn fill_kinds(table: &mut Vec<Kind>, numbers: &[u8])
     ensures room { vec_capacity table.new ≡ vec_capacity table.old }
 {
     table.clear();
+    // Not `fill`, which takes one item for each record: a number with no kind would have to be some kind there.
     for number in numbers {
         if let Ok(kind) = Kind::try_from(*number) {
             table.push_reserved(kind);

@@ -11,7 +11,7 @@ use book::place::Entry;
 impl Book for Loaded {
     ghost model = { loaded_model };
 
-    ghost shape = { λ b. Tables.shape b.nodes.items b.places.items b.kinds.items b.some b.nodesMost b.picksMost b.lawful b.targets };
+    ghost shape = { λ b. Tables.shape b.nodes.items b.places.items b.kinds.items b.some b.nodes_most b.picks_most b.lawful b.targets };
 
     fn node_count(&self) -> u16 {
         self.nodes.len() as u16

@@ -16,14 +16,14 @@ invariant_of-self c =
     let held = c.args.self.now in
     record {
       some = some_nodes s f ns nodes;
-      nodesMost = most_nodes s f ns nodes;
-      picksMost = most_picks s f (vec_items c.fill_kinds.new.table) kinds;
+      nodes_most = most_nodes s f ns nodes;
+      picks_most = most_picks s f (vec_items c.fill_kinds.new.table) kinds;
       lawful = nodes_lawful s f ns nodes;
       total = places_total s f ns nodes ps places;
       targets = zip_fits _ (λ x y r. search rules) _ _ c.fill-2.ensures.items;
-      nodeRoom = omega (arith, c.fill.ensures.room, held.nodeRoom);
-      placeRoom = omega (arith, c.fill-2.ensures.room, held.placeRoom);
-      kindRoom = omega (arith, c.fill_kinds.ensures.room, held.kindRoom);
+      node_room = omega (arith, c.fill.ensures.room, held.node_room);
+      place_room = omega (arith, c.fill-2.ensures.room, held.place_room);
+      kind_room = omega (arith, c.fill_kinds.ensures.room, held.kind_room);
     }
 
 pub returns : goal.returns
