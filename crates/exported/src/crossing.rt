@@ -7,6 +7,7 @@ ghost use Rattle.exported.specs.Rows.{told_row};
 use browse::answer::Row;
 use geometry::bounds::Point;
 
+// The C interface, here and at `ToldRow`: plain fields in C's layout, which `Point` and `Row` do not promise.
 /// A query, in hundredths of a foot; nobody has tested that it is in range.
 #[repr(C)]
 #[derive(Clone, Copy)]

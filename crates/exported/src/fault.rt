@@ -20,6 +20,7 @@ pub(crate) enum Fault {
     Refused(Refusal),
 }
 
+// Written out, as in refusal: clauses name what `?` makes.
 impl From<AllocError> for Fault {
     ghost from_gives = { λ _ fault. fault ≡ Memory };
 

@@ -37,6 +37,7 @@ pub(crate) fn query_boxes(heap: Global, points: &[QueryPoint]) -> Result<Vec<Bou
     ensures { MatchResult result (λ v. boxes_of points.now ≡ Ok v.items) (FaultOf (boxes_of points.now)) }
 {
     let mut boxes = Vec::with_capacity(heap, points.len())?;
+    // `collect` may want memory at any item; here it is all taken first.
     for point in points {
         boxes.push_reserved(Bounds::at(Point::from(*point))?);
     }
