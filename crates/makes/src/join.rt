@@ -173,7 +173,7 @@ impl<L: Book, R: Book> Book for Join<L, R> {
             Some(rest) if rest < seam.right.picks => self.right.kind(rest),
             Some(_) => return None,
         };
-        // Every pick below a book's limit has a kind, so the marker is never wanted.
+        // That the book has this pick is known where the seam was measured, and not here: the marker is never told.
         Some(kind.unwrap_or(Kind::Marker))
     }
 }

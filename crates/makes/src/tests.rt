@@ -17,15 +17,10 @@ fn entry<B: Book>(book: &B, node: u16, index: u8) -> Result<Entry, Fail> {
 
 #[test]
 fn pile(rt: HostRuntime) -> Result<(), Fail> {
-    let top = Point {
-        easting: 0,
-        northing: 0,
-        level: 0,
-    };
+    let top = Point::ORIGIN;
     let east = Offset::new(Point {
         easting: 100,
-        northing: 0,
-        level: 0,
+        ..Point::ORIGIN
     })?;
     let left = Shift::new(Tally::new(top, 17, 3000)?, east);
     let right = Tally::new(top, 20, 1000)?;
@@ -51,11 +46,7 @@ fn pile(rt: HostRuntime) -> Result<(), Fail> {
 // The longest string makes 63 leaves, 4 nodes above them and the root.
 #[test]
 fn longest_string(rt: HostRuntime) -> Result<(), Fail> {
-    let top = Point {
-        easting: 0,
-        northing: 0,
-        level: 0,
-    };
+    let top = Point::ORIGIN;
     let string = Tally::new(top, 1000, 100)?;
     assert_eq!(rt; string.node_count(), 68);
     assert_eq!(rt; total_places(&string), 1067);

@@ -17,13 +17,7 @@ impl Offset {
         ensures value { result.by ≡ no_move }
         ensures same { (m : Model) → shifted result.by m ≡ m }
     {
-        Offset {
-            by: Point {
-                easting: 0,
-                northing: 0,
-                level: 0,
-            },
-        }
+        Offset { by: Point::ORIGIN }
     }
 
     /// The way back. It undoes this offset where no box left the range.

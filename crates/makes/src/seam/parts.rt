@@ -1,7 +1,7 @@
 //! What a joined book's nodes and places are made of.
 
 ghost use Rattle.std.specs.Prelude.{◌≡◌, ◌+◌, ◌≤◌};
-ghost use Rattle.makes.specs.Join.{count_at, renumbered as renumberedPlace};
+ghost use Rattle.makes.specs.Join.{count_at, renumbered as renumbered_place};
 ghost use Rattle.makes.specs.Seam.{part_of, root_place};
 
 use crate::seam::{Part, Seam, Sizes};
@@ -27,7 +27,7 @@ impl Sizes {
         place: Option<Entry>,
     ) -> Option<Entry>
         requires { count_at before.now level + count_at self.now level ≤ 65536 }
-        ensures { result ≡ renumberedPlace self.now before.now level place }
+        ensures { result ≡ renumbered_place self.now before.now level place }
     {
         let entry = place?;
         (entry.target < self.at(level)).then(|| Entry {

@@ -14,7 +14,7 @@ impl Sixteens {
         ensures value { count_of result ≡ tree_count count }
         ensures tree { (boxes : List (Maybe BoxOf)) → 0 < length boxes → length boxes ≤ 1000 → TreeBySixteens boxes }
     {
-        // A closure for `then` would have to state the two bounds again.
+        // Tried: `then(|| Sixteens { count })` does not close; with both bounds as its clause it does, and is no plainer.
         if (1..=1000).contains(&count) {
             Some(Sixteens { count })
         } else {

@@ -2,7 +2,7 @@
 
 ghost use Rattle.std.specs.Prelude.{◌≡◌, ◌<◌, true, false, MatchOption};
 ghost use Rattle.geometry.specs.Bounds.{point_in_range};
-ghost use Rattle.makes.specs.Tally.{sized, collar_at, hangs as hangsFrom};
+ghost use Rattle.makes.specs.Tally.{sized, collar_at, hangs as hangs_from};
 
 use crate::tally::Joints;
 use geometry::bounds::Point;
@@ -12,7 +12,7 @@ impl Joints {
     pub(crate) fn new(count: u16, length: u32) -> Option<Joints>
         ensures { MatchOption result (sized count length ≡ false) (λ made. (made.count ≡ count) × (made.length ≡ length)) }
     {
-        // A closure for `then` would have to state the four bounds again.
+        // Tried: `then(|| Joints { count, length })` does not close; with `sized` as its clause it does, and is no plainer.
         if (1..=1000).contains(&count) && (1..=5000).contains(&length) {
             Some(Joints { count, length })
         } else {
@@ -35,7 +35,7 @@ impl Joints {
 
     /// Whether the top and the lowest collar are in range.
     pub(crate) fn hangs(&self, top: &Point) -> bool
-        ensures { result ≡ hangsFrom top.now self.now.count self.now.length }
+        ensures { result ≡ hangs_from top.now self.now.count self.now.length }
     {
         top.in_range() && self.collar(top, self.count - 1).in_range()
     }
