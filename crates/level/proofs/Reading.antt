@@ -16,7 +16,12 @@ use Rattle.std.proofs.lemmas.Bool.Decides.{nat_tests, Decides-and}
 use Rattle.std.proofs.lemmas.Slice.Eq.{bytes_eq-Decides}
 use Rattle.std.proofs.lemmas.List.{get_or_append_left, take_all}
 use Rattle.std.proofs.lemmas.Fmt.{decimal_by_steps, decimal_digit, decimal_nonempty, first_decimal, length-decimal-le}
-use Rattle.refusal.specs.Told.{Told, plain}
+use Rattle.std.specs.Prelude.{None, OkIff, MatchOption}
+use Rattle.std.specs.Bool.{then_some}
+use Rattle.std.specs.Option.{ok_or}
+use Rattle.std.specs.Result.{result_ok}
+use Rattle.refusal.specs.declared.hands.TypingFault.TheVariants.{NotALevel}
+use Rattle.refusal.specs.Told.{Told, plain, answered, typing_told}
 use Rattle.level.specs.Range.{is_level}
 use Rattle.level.specs.Write.{hundredths_text, level_text}
 use Rattle.level.specs.Read.{longest_text, with_byte, digits_spell, spelt, reads, TextOf, ReadingLaw, RoundTrip, NoTwoShareAText}
@@ -144,11 +149,11 @@ length_small n h =
     let b = length-decimal-le 6 (n / 100) (omega arith) (omega arith) (omega arith) in
     omega (arith, length-append (decimal (n / 100)) (46 ∷ (48 + n / 10 % 10) ∷ (48 + n % 10) ∷ []))
 
-pub text_short : (x : ℤ) → is_level x ≡ true → length (level_text x) ≤ longest_text
+text_short : (x : ℤ) → is_level x ≡ true → length (level_text x) ≤ longest_text
 text_short (pos n) h = omega (arith, length_small n (level_small n h))
 text_short (negsuc n) h = omega (arith, length_small (suc n) (level_small_below n h))
 
-pub level_fits : (x : ℤ) → is_level x ≡ true → SFits w32 x
+level_fits : (x : ℤ) → is_level x ≡ true → SFits w32 x
 level_fits (pos n) h = record { sfits = omega (arith, level_small n h) }
 level_fits (negsuc n) h = record { sfits = omega (arith, level_small_below n h) }
 
@@ -193,12 +198,23 @@ pub no_two_share : NoTwoShareAText
 no_two_share x y h k e = sym (spelt_text x h) ∙ ap spelt e ∙ spelt_text y k
 
 -- ---- the answers of `read_level`
-pub taken : (text : List ℕ) (x : ℤ) → TextOf text x → Ok x ≡ reads text
-taken text x t = sym ((reading_law text).takes x t)
+-- no level has so long a text
+pub too_long : (text : List ℕ) → longest_text < length text → Err (plain 27) ≡ reads text
+too_long text long =
+    sym ((reading_law text).refuses (λ x t. let k : length text ≡ length (level_text x) = ap length t.1 in let s = text_short x t.0 in omega (arith, k, s)))
 
-pub refused : (text : List ℕ) (x : ℤ) → x ≡ spelt text → (TextOf text x → ⊥) → Err (plain 27) ≡ reads text
-refused text x e none =
-    sym ((reading_law text).refuses (λ y t. none (subst (TextOf text) (sym e) (own_text text y t))))
+kept_by : (text : List ℕ) (b : Bool) → Decides b (TextOf text (spelt text)) → answered typing_told (ok_or (then_some b (spelt text)) NotALevel) ≡ reads text
+kept_by text true d = sym ((reading_law text).takes (spelt text) (d.0 refl))
+kept_by text false d = sym ((reading_law text).refuses (λ x t. absurd (let e = d.1 (own_text text x t) in let z : ◌≡◌ {A = ℕ} 0 1 = cc in omega arith)))
+
+-- the number that a text spells, where it fits, is answered where this is its text
+pub kept : {E : Type 0} (text : List ℕ) (number : Result ℤ E) (found : Option ℤ) → OkIff number (SFits w32 (spelt text)) (spelt text) → MatchOption (result_ok number) (found ≡ None) (λ x. (b : Bool) × Decides b (TextOf text x) × (found ≡ then_some b x)) → answered typing_told (ok_or found NotALevel) ≡ reads text
+kept text (Ok x) found fits (b, d, e) =
+    ap (λ o. answered typing_told (ok_or o NotALevel)) (e ∙ ap (then_some b) fits.1)
+    ∙ kept_by text b (subst (λ y. Decides b (TextOf text y)) fits.1 d)
+kept text (Err z) found wide e =
+    ap (λ o. answered typing_told (ok_or o NotALevel)) e
+    ∙ sym ((reading_law text).refuses (λ x t. wide (level_fits (spelt text) (own_text text x t).0)))
 
 pub obeys : (text : List ℕ) (answer : Result ℤ Told) → answer ≡ reads text → ReadingLaw text answer
 obeys text answer e = subst (ReadingLaw text) (sym e) (reading_law text)

@@ -39,7 +39,7 @@ fn is_text_of(text: &[u8], level: i32) -> bool
 }
 
 /// Reads a level: takes the texts that `write_level` can give, and no others.
-#[tactic(auto, using(crate::proofs::Reading::taken, crate::proofs::Reading::refused, crate::proofs::Reading::obeys, crate::proofs::Reading::round_trip, crate::proofs::Reading::no_two_share, crate::proofs::Reading::text_short, crate::proofs::Reading::level_fits))]
+#[tactic(auto, using(crate::proofs::Reading::too_long, crate::proofs::Reading::obeys, crate::proofs::Reading::round_trip, crate::proofs::Reading::no_two_share))]
 pub fn read_level(text: &[u8]) -> Result<i32, TypingFault>
     ensures answer { answered typing_told result ≡ reads text.now }
     ensures law { ReadingLaw text.now (answered typing_told result) }
@@ -49,12 +49,8 @@ pub fn read_level(text: &[u8]) -> Result<i32, TypingFault>
     if text.len() > LONGEST {
         return Err(TypingFault::NotALevel);
     }
-    let Ok(level) = i32::try_from(candidate(text)) else {
-        return Err(TypingFault::NotALevel);
-    };
-    if is_text_of(text, level) {
-        Ok(level)
-    } else {
-        Err(TypingFault::NotALevel)
-    }
+    i32::try_from(candidate(text))
+        .ok()
+        .filter(|level| is_text_of(text, *level))
+        .ok_or(TypingFault::NotALevel)
 }
