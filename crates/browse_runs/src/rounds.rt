@@ -21,12 +21,6 @@ pub struct Results {
     pub joined_shifted: Agreed,
 }
 
-const ORIGIN: Point = Point {
-    easting: 0,
-    northing: 0,
-    level: 0,
-};
-
 impl Source {
     // As far down or up as the range allows, or anything between.
     fn drawn_amount(&mut self, low: i32, high: i32) -> i32 {
@@ -42,8 +36,8 @@ impl Source {
     // An offset by which no box of the book leaves the range.
     fn drawn_offset<B: Book>(&mut self, book: &B) -> anyhow::Result<Offset> {
         let origin = Extent {
-            low: ORIGIN,
-            high: ORIGIN,
+            low: Point::ORIGIN,
+            high: Point::ORIGIN,
         };
         let Extent { low, high } = entries(self.heap, book)?
             .iter()

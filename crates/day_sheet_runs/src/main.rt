@@ -24,12 +24,6 @@ const RUNS: usize = 900;
 // By turns.
 const CHOICES: [Choice; 3] = [Choice::Euclidean, Choice::Manhattan, Choice::Chessboard];
 
-const ORIGIN: Point = Point {
-    easting: 0,
-    northing: 0,
-    level: 0,
-};
-
 // Whether the shortlist of this sheet is the one that the plain sort gives; `before` is the sheet too.
 fn agrees(
     heap: Global,
@@ -55,7 +49,7 @@ fn agrees(
 fn agrees_on_another(heap: Global, chance: &mut Chance, choice: Choice) -> anyhow::Result<bool> {
     let mut sheet = [Record {
         kind: 0,
-        point: ORIGIN,
+        point: Point::ORIGIN,
         marked: false,
     }; 256];
     drawn::fill(chance, &mut sheet);
@@ -82,10 +76,10 @@ fn say(rt: &impl Print, what: &str, told: Result<usize, Refusal>) -> io::Result<
 fn attempt(k: usize, records: usize, rows: usize, level: i32) -> Result<usize, Refusal>
     requires { (records ≤ 257) × (rows ≤ 33) }
 {
-    let query = Bounds::at(ORIGIN)?;
+    let query = Bounds::at(Point::ORIGIN)?;
     let mut sheet = [Record {
         kind: 2,
-        point: ORIGIN,
+        point: Point::ORIGIN,
         marked: false,
     }; 257];
     sheet[2].point.level = level;
