@@ -37,7 +37,7 @@ pub struct Span {
     ghost most: { high ≤ℤ most_coordinate },
 }
 
-// no `Axes<T>` for Point, Bounds and Gaps: each use names its axes, so these three fields alone would be shared
+// no `Axes<T>`: it would take a map, a zip, one for options and an `all`, with contracts, for two uses each here
 /// A bounding box. Each axis holds its own proof, so no box with ends out of order or out of range exists.
 #[derive(Clone, Copy, PartialEq, Eq, Debug)]
 pub struct Bounds {

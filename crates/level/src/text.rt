@@ -1,6 +1,6 @@
 //! The text of a level.
 
-ghost use Rattle.std.specs.Prelude.{◌≡◌, ◌+◌, ◌<◌};
+ghost use Rattle.std.specs.Prelude.{◌≡◌};
 ghost use Rattle.level.specs.Write.{level_text};
 
 use arrayvec::ArrayString;
@@ -8,14 +8,6 @@ use itoa::Buffer;
 
 /// Room for a minus, the ten digits that a `u32` can have, a point and two digits.
 pub(crate) const ROOM: usize = 14;
-
-/// The character of a digit.
-fn digit_char(digit: u32) -> char
-    requires { digit < 10 }
-    ensures { result ≡ 48 + digit }
-{
-    char::from(b'0' + digit as u8)
-}
 
 /// The text of `level`, in range or not.
 // pushed piece by piece: the contract of `write!` lets it fail even where there is room
@@ -30,7 +22,7 @@ pub(crate) fn level_text(level: i32) -> ArrayString<ROOM>
     }
     text.push_str(Buffer::new().format(hundredths / 100));
     text.push('.');
-    text.push(digit_char(hundredths / 10 % 10));
-    text.push(digit_char(hundredths % 10));
+    text.push(char::from_digit(hundredths / 10 % 10, 10).unwrap());
+    text.push(char::from_digit(hundredths % 10, 10).unwrap());
     text
 }

@@ -29,7 +29,7 @@ impl Span {
     pub fn new(low: i32, high: i32) -> Option<Span>
         ensures { result ≡ span_at low high }
     {
-        // no `then`: its closure would have to require the three tests again
+        // `then` was tried: its closure's inferred `requires` leaves out a span's facts; written out, it is no plainer
         if LEAST <= low && low <= high && high <= MOST {
             Some(Span { low, high })
         } else {
