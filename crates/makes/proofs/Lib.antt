@@ -1,3 +1,4 @@
 pub mod Joins
 pub mod Fits
 pub mod Worked
+pub mod Climbing

@@ -13,6 +13,7 @@ pub struct Sixteens {
     ghost few: { count ≤ 1000 },
 }
 
+// No ghost field says that the numbers are small: definitions make rows of any count, which such a field would forbid.
 /// One level of the tree: its first node, what its first place names, how many places it has in all its nodes, and how
 /// many picks lie below a place.
 #[derive(Clone, Copy)]

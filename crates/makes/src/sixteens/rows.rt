@@ -24,9 +24,9 @@ impl Row {
 
     // The row above, which names this row's nodes, unless this row is one node.
     fn above(&self) -> Option<Row>
-        requires low { self.now.level < 2 }
+        requires low { self.now.level ≤ 2 }
         requires near { self.now.first + self.now.places < 65536 }
-        requires narrow { self.now.below ≤ 16 }
+        requires narrow { self.now.below ≤ 256 }
         ensures { result ≡ row_above self.now }
     {
         let nodes = group_count(self.places);
@@ -42,24 +42,21 @@ impl Row {
 
 impl Sixteens {
     /// The row of a node, where there is such a node.
+    #[tactic(auto, using(crate::proofs::Climbing::bounded, crate::proofs::Climbing::found, crate::proofs::Climbing::ended, crate::proofs::Climbing::climbs))]
     pub(crate) fn row_of(&self, node: u16) -> Option<Row>
         ensures { result ≡ row_of self.now.count node }
     {
-        let leaves = Row {
+        let mut row = Row {
             level: 0,
             first: 0,
             target: 0,
             places: self.count,
             below: 1,
         };
-        if leaves.reaches(node) {
-            return Some(leaves);
+        // Not `successors` and `find`: `find` asks that the items end, which `successors` does not tell of its own.
+        while !row.reaches(node) {
+            row = row.above()?;
         }
-        let middle = leaves.above()?;
-        if middle.reaches(node) {
-            return Some(middle);
-        }
-        let top = middle.above()?;
-        top.reaches(node).then_some(top)
+        Some(row)
     }
 }
