@@ -60,7 +60,7 @@ monotone f grow q o i w =
     (gap_mono q.northing o.northing i.northing w.1) (gap_mono q.level o.level i.level w.2)
 
 -- no measure that grows gives more than it does at the widest gaps
-most : (f : Way) → Grows f → (q b : Bounds) → box_distance f q b ≤ f widest widest widest
+pub most : (f : Way) → Grows f → (q b : Bounds) → box_distance f q b ≤ f widest widest widest
 unfolding box_distance
 most f grow q b =
     grow _ _ _ _ _ _ (gap_most q.easting b.easting) (gap_most q.northing b.northing) (gap_most q.level b.level)

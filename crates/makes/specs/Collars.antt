@@ -40,11 +40,12 @@ sizes_of_lem joints long e =
     let c = and_parts (nat_le 1 long) (nat_le long 5000) a.1 in
     record { some = leb-true 1 joints b.0; few = leb-true joints 1000 b.1; long_some = leb-true 1 long c.0; short = leb-true long 5000 c.1 }
 
--- how far down a joint is
+-- how far down a joint can be
+pub down_most : (j long : ℕ) → j < 1000 → long ≤ 5000 → j * long ≤ 4995000
+down_most j long h k = mul-le j long 999 5000 (omega arith) k
+
 pub down_joint : (s : Joints) (j : ℕ) → j < s.count → j * s.length ≤ 4995000
-down_joint s j h =
-    let sizes = sizes_of_lem s.count s.length s.sizes in
-    mul-le j s.length 999 5000 (omega (arith, sizes.few)) sizes.short
+down_joint s j h = let sizes = sizes_of_lem s.count s.length s.sizes in down_most j s.length (omega (arith, sizes.few)) sizes.short
 
 pub east_is : (x : ℤ) → (least_coordinate ≤ℤ x) × (x ≤ℤ most_coordinate) → to_z w32 (of_z w32 x) ≡ x
 east_is x r = omega (arith, ints)

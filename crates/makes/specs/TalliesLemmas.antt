@@ -47,7 +47,7 @@ module _ (t : Tally) where
       get_or-map Some (replicate t.joints.count Collar) p Collar None (omega (arith, picks_tally))
       ∙ ap Some (get_or-replicate t.joints.count p Collar Collar h)
 
-  kind_past : (p : ℕ) → t.joints.count ≤ p → kind_of (book_of t) p ≡ None
+  pub kind_past : (p : ℕ) → t.joints.count ≤ p → kind_of (book_of t) p ≡ None
   kind_past p h = get_or_past (map Some (replicate t.joints.count Collar)) p None (simp length-map (omega (arith, picks_tally)))
 
   pub kind_tally : (p : ℕ) → then_some (nat_lt p t.joints.count) Collar ≡ kind_of (book_of t) p
