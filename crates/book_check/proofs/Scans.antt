@@ -1,14 +1,17 @@
 -- What the scan knows at each turn, and what it has found when it stops.
-use Rattle.std.proofs.Common.{◌≡◌, ℕ, ◌+◌, ◌-◌, ◌<◌, ◌≤◌, true, false, not, ◌||◌, ◌⊎◌, Some, None, Ok, Err, Option, sym, ap, ◌∙◌, inl, inr, ⊎_elim, arith}
+use Rattle.std.specs.Bool.{⊤}
+use Rattle.std.proofs.Common.{◌≡◌, ℕ, ◌+◌, ◌-◌, ◌<◌, ◌≤◌, true, false, not, ◌||◌, ◌⊎◌, Some, None, Ok, Err, Option, Result, sym, ap, ◌∙◌, inl, inr, ⊎_elim, arith}
 use Rattle.std.specs.Option.{MatchOption, option_map}
 use Rattle.std.proofs.lemmas.Bool.{ltb-true, cases_Bool}
-use Rattle.refusal.specs.Told.{Told, at_node, at_place}
+use Rattle.refusal.specs.Told.{answered, tree_told, Told, at_node, at_place}
+use Rattle.refusal.specs.declared.hands.TreeFault.{TreeFault}
+use Rattle.refusal.specs.declared.hands.TreeFault.TheVariants.{Unnamed}
 use Rattle.book.specs.Model.{Model, BookShape, node_count, pick_limit, place_count}
 use Rattle.book_check.specs.Below.{first_below, count_below}
 use Rattle.book_check.specs.Targets.{target_of, root_of, in_book, same}
 use Rattle.book.specs.Totals.{total_places}
 use Rattle.book_check.specs.Names.{named_before, is_named, picks_named}
-use Rattle.book_check.specs.Sound.{when, sound_target}
+use Rattle.book_check.specs.Sound.{when, unless, sound_target}
 use Rattle.book_check.specs.Checked.{place_fault, node_fault, unnamed, tree_fault}
 use Rattle.book_check.specs.Marks.{bit_of, HasBit, first_unnamed}
 use Rattle.book_check.specs.declared.target.Target.{Target}
@@ -80,6 +83,11 @@ searched a root None h = first_no _ root (λ k l. ap (λ b. when (not b) (at_nod
 searched a root (Some n) h =
     first_at _ root n (at_node 19 n) (first_no _ n (λ k l. ap (λ b. when (not b) (at_node 19 k)) (h.3 k (omega arith) l)))
     (ap (λ b. when (not b) (at_node 19 n)) h.2) h.1
+
+-- a search that finds nothing is answered with nothing, and else with 19 at what it found
+pub searched_told : (a : Named) (root : ℕ) (r : Option ℕ) (P : ℕ → Type 0) (told : Result ⊤ TreeFault) → first_unnamed a root ≡ option_map (at_node 19) r → MatchOption r (told ≡ Ok tt) P → ((n : ℕ) → P n → told ≡ Err (Unnamed n)) → answered tree_told told ≡ unless (first_unnamed a root) tt
+searched_told a root None P told f h given = ap (answered tree_told) h ∙ sym (ap (λ x. unless x tt) f)
+searched_told a root (Some n) P told f h given = ap (answered tree_told) (given n h) ∙ sym (ap (λ x. unless x tt) f)
 
 pub all_marked : (m : Model) (a : Named) (n : ℕ) → n ≡ node_count m → Scanned m a n → (t : Target) → bit_of a t ≡ is_named m t
 all_marked m a n e s t = s.1 t ∙ before_all m n t e

@@ -24,10 +24,9 @@ fn all_named(named: &Named, root: u16) -> Result<(), TreeFault>
     requires { root ≤ 512 }
     ensures { answered tree_told result ≡ unless (first_unnamed named.now root) tt }
 {
-    match (0..root).find(|node| !named.has(Target::Child(*node))) {
-        Some(node) => Err(TreeFault::Unnamed { node }),
-        None => Ok(()),
-    }
+    (0..root)
+        .find(|node| !named.has(Target::Child(*node)))
+        .map_or(Ok(()), |node| Err(TreeFault::Unnamed { node }))
 }
 
 /// Accepts the book with the number of different picks that its entries name, or tells its first fault, lowest node
@@ -43,7 +42,7 @@ pub fn check<B: Book>(book: &B) -> Result<u16, TreeFault>
     let nodes = book.node_count();
     let root = root_of(book);
     let mut named = Named::none();
-    // A form of the project: nested loops over nodes and places, left by a label with the fault.
+    // A form of the project: nested loops over nodes and places, left at each fault by the label.
     let scanned = 'scan: {
         for node in 0..nodes {
             let places = book.place_count(node);
@@ -51,7 +50,10 @@ pub fn check<B: Book>(book: &B) -> Result<u16, TreeFault>
                 break 'scan Err(TreeFault::NoPlaces { node });
             }
             for place in 0..places {
-                let target = sound_target(book, node, place)?;
+                let target = match sound_target(book, node, place) {
+                    Ok(target) => target,
+                    Err(fault) => break 'scan Err(fault),
+                };
                 if named.has(target) {
                     break 'scan Err(TreeFault::NamedTwice { node, place });
                 }

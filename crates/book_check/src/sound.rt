@@ -42,9 +42,9 @@ fn leaves_box<B: Book>(book: &B, bounds: &Bounds, target: Target) -> bool
 pub(crate) fn sound_target<B: Book>(book: &B, node: u16, place: u8) -> Result<Target, TreeFault>
     ensures { answered tree_told result ≡ sound_target (B.Book.model book.now) node place }
 {
-    let Some(entry) = book.place(node, place) else {
-        return Err(TreeFault::Spoilt { node, place });
-    };
+    let entry = book
+        .place(node, place)
+        .ok_or(TreeFault::Spoilt { node, place })?;
     let target = target_at(book.level(node), entry.target);
     if !in_book(book, target) {
         return Err(TreeFault::Target { node, place });
