@@ -9,9 +9,9 @@ use Rattle.geometry.specs.declared.bounds.Bounds.{Bounds}
 use Rattle.geometry.proofs.Containing.{contains_within}
 use Rattle.book.specs.Model.{Model, node_count, pick_limit, level_of, place_count, place_of}
 use Rattle.book.specs.declared.place.Entry.{Entry}
-use Rattle.book_check.specs.Targets.{target_of, root_of, in_book}
+use Rattle.book_check.specs.Targets.{target_of, root_of, in_book, one_lower}
 use Rattle.book_check.specs.Names.{named_before, is_named, picks_named}
-use Rattle.book_check.specs.Sound.{one_lower, outside, sticks_out, leaves_box}
+use Rattle.book_check.specs.Sound.{outside, sticks_out, leaves_box}
 use Rattle.book_check.specs.Checked.{place_fault, node_fault, unnamed, tree_fault, checked}
 use Rattle.book_check.specs.Accepted.{Stands, Names, InBook, Parent, Accepted, Exactly}
 use Rattle.book_check.specs.declared.target.Target.{Target}
@@ -152,7 +152,7 @@ module _ (m : Model) (acc : Accepted m) where
       let f : r.entry ≡ e = same_entry m n i r.entry e ((λ j. place_of m (x.0 j) (x.1 j)) ∙ r.stands) s in
       (l, r.higher ∙ ap (level_of m) (sym x.0), subst (λ b. Holds m b k) (ap (λ y. y.bounds) f) r.contains)
 
-  is_low : (n i : ℕ) (e : Entry) (t : Target) → Stands m n i e → target_of m n e ≡ t → one_lower m n t ≡ true
+  is_low : (n i : ℕ) (e : Entry) (t : Target) → Stands m n i e → target_of m n e ≡ t → one_lower m (level_of m n) t ≡ true
   is_low n i e (Pick p) s q = refl
   is_low n i e (Child k) s q = eq-eqb (level_of m k + 1) (level_of m n) (child_at n i k e s q).1
 

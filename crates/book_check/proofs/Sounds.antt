@@ -7,8 +7,8 @@ use Rattle.geometry.specs.declared.bounds.Bounds.{Bounds}
 use Rattle.book.specs.Model.{Model, level_of, place_count, place_of}
 use Rattle.book.specs.declared.place.Entry.{Entry}
 use Rattle.book_check.specs.Below.{first_of}
-use Rattle.book_check.specs.Targets.{target_at, target_of, in_book}
-use Rattle.book_check.specs.Sound.{when, unless, one_lower, outside, sticks_out, leaves_box, entry_fault, sound_target, sound_in}
+use Rattle.book_check.specs.Targets.{target_at, target_of, in_book, one_lower}
+use Rattle.book_check.specs.Sound.{when, unless, outside, sticks_out, leaves_box, entry_fault, sound_target, sound_in}
 use Rattle.book_check.specs.declared.target.Target.{Target}
 use Rattle.book_check.proofs.Belows.{any_below}
 
@@ -29,7 +29,7 @@ by_tests n i here low out t =
     unless (first_of (when (not here) (at_place 15 n i) ∷ when (not low) (at_place 16 n i) ∷ when out (at_place 17 n i) ∷ [])) t
 
 -- v and t are the level and the target that the code reads
-pub filled_target : (m : Model) (n i : ℕ) (e : Entry) (v : ℕ) (t : Target) (here low out : Bool) → Some e ≡ place_of m n i → v ≡ level_of m n → t ≡ target_at v e.target → here ≡ in_book m t → low ≡ one_lower m n t → out ≡ leaves_box m e.bounds t → by_tests n i here low out t ≡ sound_target m n i
+pub filled_target : (m : Model) (n i : ℕ) (e : Entry) (v : ℕ) (t : Target) (here low out : Bool) → Some e ≡ place_of m n i → v ≡ level_of m n → t ≡ target_at v e.target → here ≡ in_book m t → low ≡ one_lower m (level_of m n) t → out ≡ leaves_box m e.bounds t → by_tests n i here low out t ≡ sound_target m n i
 unfolding sound_target
 filled_target m n i e v t here low out h p q a b c =
     (λ j. by_tests n i (a j) (b j) (c j) t)
@@ -42,7 +42,7 @@ pub record Sound (m : Model) (n i : ℕ) (t : Target) : Type 0 where
   pub stands : place_of m n i ≡ Some entry
   pub target : target_of m n entry ≡ t
   pub here : in_book m t ≡ true
-  pub low : one_lower m n t ≡ true
+  pub low : one_lower m (level_of m n) t ≡ true
   pub holds : leaves_box m entry.bounds t ≡ false
 
 tests_parts : (n i : ℕ) (here low out : Bool) (u t : Target) → by_tests n i here low out u ≡ Ok t → (here ≡ true) × (low ≡ true) × (out ≡ false) × (u ≡ t)
@@ -55,13 +55,13 @@ parts : (m : Model) (n i : ℕ) (t : Target) (p : Option Entry) → place_of m n
 parts m n i t None e h = absurd cc
 parts m n i t (Some f) e h =
     let u = target_of m n f in
-    let r = tests_parts n i (in_book m u) (one_lower m n u) (leaves_box m f.bounds u) u t h in
+    let r = tests_parts n i (in_book m u) (one_lower m (level_of m n) u) (leaves_box m f.bounds u) u t h in
     record {
       entry = f;
       stands = e;
       target = r.3;
       here = ap (in_book m) (sym r.3) ∙ r.0;
-      low = ap (one_lower m n) (sym r.3) ∙ r.1;
+      low = ap (one_lower m (level_of m n)) (sym r.3) ∙ r.1;
       holds = ap (leaves_box m f.bounds) (sym r.3) ∙ r.2;
     }
 

@@ -1,12 +1,12 @@
 -- What can be wrong with one place by itself.
-use Rattle.std.specs.Prelude.{ℕ, ◌+◌, Bool, true, false, cond, not, [], ◌∷◌, Some, None, Ok, Err, Option, Result, ◌==◌}
+use Rattle.std.specs.Prelude.{ℕ, Bool, false, cond, not, [], ◌∷◌, Some, None, Ok, Err, Option, Result}
 use Rattle.refusal.specs.Told.{Told, at_place}
 use Rattle.geometry.specs.Contains.{contains}
 use Rattle.geometry.specs.declared.bounds.Bounds.{Bounds}
 use Rattle.book.specs.Model.{Model, level_of, place_count, place_of}
 use Rattle.book.specs.declared.place.Entry.{Entry}
 use Rattle.book_check.specs.Below.{first_of, some_below}
-use Rattle.book_check.specs.Targets.{target_of, in_book}
+use Rattle.book_check.specs.Targets.{target_of, in_book, one_lower}
 use Rattle.book_check.specs.declared.target.Target.{Target}
 use Rattle.book_check.specs.declared.target.Target.TheVariants.{Pick, Child}
 
@@ -18,11 +18,6 @@ when wrong fault = cond wrong (Some fault) None
 abbrev pub unless : {A : Type 0} → Option Told → A → Result A Told
 unless (Some fault) a = Err fault
 unless None a = Ok a
-
--- whether t is one level lower than node n, which every pick of a leaf is
-abbrev pub one_lower : Model → ℕ → Target → Bool
-one_lower m n (Pick p) = true
-one_lower m n (Child k) = level_of m k + 1 == level_of m n
 
 -- a place whose entry lies outside the box
 abbrev pub outside : Bounds → Option Entry → Bool
@@ -43,7 +38,7 @@ abbrev pub entry_fault : Model → ℕ → ℕ → Bounds → Target → Option 
 entry_fault m n i b t =
     first_of (
     when (not (in_book m t)) (at_place 15 n i)
-    ∷ when (not (one_lower m n t)) (at_place 16 n i)
+    ∷ when (not (one_lower m (level_of m n) t)) (at_place 16 n i)
     ∷ when (leaves_box m b t) (at_place 17 n i)
     ∷ [])
 

@@ -1,5 +1,5 @@
 -- What an entry names: a pick in a node of level 0, a child above that.
-use Rattle.std.specs.Prelude.{ℕ, ◌-◌, Bool, false, cond, ◌==◌, nat_lt}
+use Rattle.std.specs.Prelude.{ℕ, ◌+◌, ◌-◌, Bool, true, false, cond, ◌==◌, nat_lt}
 use Rattle.book.specs.Model.{Model, node_count, pick_limit, level_of}
 use Rattle.book.specs.declared.place.Entry.{Entry}
 use Rattle.book_check.specs.declared.target.Target.{Target}
@@ -28,3 +28,8 @@ root_of m = node_count m - 1
 abbrev pub in_book : Model → Target → Bool
 in_book m (Pick p) = nat_lt p (pick_limit m)
 in_book m (Child k) = nat_lt k (root_of m)
+
+-- whether t is one level lower than a node of this level, which every pick of a leaf is
+abbrev pub one_lower : Model → ℕ → Target → Bool
+one_lower m level (Pick p) = true
+one_lower m level (Child k) = level_of m k + 1 == level

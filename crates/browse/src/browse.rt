@@ -17,7 +17,7 @@ use refusal::hands::TreeFault;
 use search::turn::{Call, Turn};
 use std::alloc::{AllocError, Global};
 
-/// A browse of a book, nearest pick first. It allocates nothing.
+/// A browse of a book, nearest pick first. Only `take_turns` allocates: a vector of answers.
 #[derive(Drop)]
 pub struct Browse<B, M> {
     view: View<B, M>,
@@ -40,7 +40,7 @@ impl<B: Book, M: Measure> Browse<B, M> {
         Browse { view, desk }
     }
 
-    /// The nearest pick not yet told that is no farther than the limit, or the number of a node that is broken, which
+    /// The nearest pick not yet told that is no farther than the limit, or the fault of a node that is broken, which
     /// then still waits.
     pub fn next(&mut self, limit: u64) -> Result<Found, TreeFault>
         ensures parts { self.new.view ≡ self.old.view }

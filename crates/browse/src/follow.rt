@@ -27,9 +27,9 @@ impl<B: Book, M: Measure> View<B, M> {
                     return Ok(Found { row, opened });
                 }
                 Class::Node => {
-                    let Some(kids) = self.kids_to_open(desk, first) else {
-                        return Err(TreeFault::Broken { node: first.number });
-                    };
+                    let kids = self
+                        .kids_to_open(desk, first)
+                        .ok_or(TreeFault::Broken { node: first.number })?;
                     desk.open(&kids);
                 }
             }

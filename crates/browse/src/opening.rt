@@ -13,6 +13,7 @@ use crate::waiting::{Class, Kids, Waiting};
 use arrayvec::ArrayVec;
 use book::book::Book;
 use book::place::Entry;
+use book_check::target::{in_book, one_lower, target_at};
 use geometry::measure::Measure;
 
 /// So many can wait.
@@ -28,11 +29,8 @@ fn class_at(level: u8) -> Class
 fn right_target<B: Book>(book: &B, level: u8, target: u16) -> bool
     ensures { result ≡ right_target (B.Book.model book.now) level target }
 {
-    if level == 0 {
-        target < book.pick_limit()
-    } else {
-        target < book.node_count() - 1 && book.level(target) + 1 == level
-    }
+    let target = target_at(level, target);
+    in_book(book, target) && one_lower(book, level, target)
 }
 
 impl<B: Book, M: Measure> View<B, M> {

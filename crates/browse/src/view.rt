@@ -2,8 +2,7 @@
 
 use geometry::bounds::Bounds;
 
-// Each contract names the book's model and the measure's distance by its bounds: a definition would have to take both as
-// arguments, and be no plainer.
+// Contracts name the model and the distance in full: a definition would take B's and M's dictionaries at each use.
 /// A book, a measure, and the query from which the measure tells how far each box of the book is.
 #[derive(Drop)]
 pub(crate) struct View<B, M> {

@@ -28,7 +28,7 @@ pub struct Waiting {
 /// What a node's entries name, lower place first. A node has at most 16 places.
 pub(crate) type Kids = ArrayVec<Waiting, 16>;
 
-// Tops are ordered by this number and not by themselves, as `sooner` is defined.
+// Tops are ordered by this number and not by themselves, as `sooner` is defined; the definition stays.
 fn top_number(top: i32) -> u64
     ensures { result ≡ top_number top }
 {
@@ -46,7 +46,7 @@ impl Ordered for Waiting {
     ghost total = { sooner_total };
 
     fn precedes(&self, other: &Waiting) -> bool {
-        // One after another: as tuples a full ranking takes up to 1.14 times as long, by `then_with` up to 1.47 times.
+        // One tuple took 1.14 times as long, over the bar of 1.05, `then_with` 1.47 times (bench/FIGURES.md).
         if self.distance != other.distance {
             return self.distance < other.distance;
         }

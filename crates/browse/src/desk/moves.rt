@@ -56,7 +56,8 @@ impl Desk {
         heap::first(&self.table, self.used).filter(|first| first.distance <= limit)
     }
 
-    // The first waits no more. That something waits is asked of each call, since no type can hold what calls change.
+    // The first waits no more.
+    // Here, in `tell` and in `open`: a guard that lends the desk is no plainer, as `kids_to_open` asks it meanwhile.
     fn drop_first(&mut self)
         requires { 0 < length (standing self.old).waiting }
         ensures standing { standing self.new ≡ without_first (standing self.old) }
