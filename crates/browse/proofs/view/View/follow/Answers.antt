@@ -1,5 +1,4 @@
 use Rattle.std.proofs.Common.{◌≡◌, Some, None, Err, sym, ap, ◌∙◌, arith}
-use Rattle.std.specs.Option.{ok_or}
 use Rattle.std.proofs.lemmas.Result.{err_from_is_err_and}
 use Rattle.refusal.specs.declared.hands.TreeFault.TheVariants.{Broken}
 use Rattle.browse.specs.Browse.{next_of, next_reply}
@@ -16,8 +15,7 @@ returns-in_err-kids-in-Node g c =
     let broken = next_broken m far c.args.limit s (thing_of c.in-Some.first) (sym c.in-Some.ensures) c.in-Node.is (sym c.kids_to_open.ensures ∙ ap kids_of none) in
     let fault = Broken c.in-Some.first.number in
     let p = err_from_is_err_and c.from_residual.result c.from_residual.ensures.1 in
-    let told = sym c.in_err-kids-in-Node.was ∙ c.ok_or.ensures.value ∙ ap (λ o. ok_or o fault) none in
-    let same : c.in_err-kids-in-Node.field-0.0 ≡ fault = cc told in
+    let same : c.in_err-kids-in-Node.field-0.0 ≡ fault = grind arith in
     let e : c.from_residual.result ≡ Err fault = p.1 ∙ ap Err (p.2 ∙ same) in
     sym c.loop-first.invariant ∙ broken ∙ ap (λ r. (next_reply r, s)) (sym e)
 
