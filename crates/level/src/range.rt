@@ -3,6 +3,7 @@
 ghost use Rattle.std.specs.Prelude.{◌≡◌};
 ghost use Rattle.level.specs.Range.{is_level};
 
+// Apart from geometry's LEAST and MOST, which have the same values: a wider paper does not widen the field.
 /// The lowest level, in hundredths of a foot.
 pub const LEVEL_LEAST: i32 = -10_000_000;
 
