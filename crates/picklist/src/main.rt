@@ -67,17 +67,11 @@ fn print_size<B: Book>(rt: &HostRuntime, what: &str, book: &B) -> anyhow::Result
 
 // A casing string of 17 joints of 30 feet beside the loaded book, both in one, and that book a mile east.
 fn print_makes(rt: &HostRuntime, book: Loaded) -> anyhow::Result<()> {
-    let top = Point {
-        easting: 0,
-        northing: 0,
-        level: 0,
-    };
     let east = Point {
         easting: 528_000,
-        northing: 0,
-        level: 0,
+        ..Point::ORIGIN
     };
-    let tally = Tally::new(top, 17, 3_000)
+    let tally = Tally::new(Point::ORIGIN, 17, 3_000)
         .ok()
         .context("the sample tally is refused")?;
     let offset = Offset::new(east)

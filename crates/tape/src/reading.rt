@@ -63,10 +63,6 @@ pub fn read_line(line: &[u8]) -> Result<Reading, TypingFault>
     ensures { shown result ≡ shows line.now }
 {
     let point = Bounds::at(typed_point(line)?)?;
-    let ground = Bounds::at(Point {
-        easting: 0,
-        northing: 0,
-        level: 0,
-    })?;
+    let ground = Bounds::at(Point::ORIGIN)?;
     from_ground(&ground, &point)
 }
