@@ -20,7 +20,7 @@ use Rattle.browse.specs.Desk.{standing}
 use Rattle.console.specs.State.{Act}
 use Rattle.console.specs.declared.command.Command.TheVariants.{Open, Next, Report, Close}
 use Rattle.console.specs.declared.say.Said.{Said}
-use Rattle.console.specs.declared.say.Said.TheVariants.{Opened, Next as Found', Report as Counted, Closed, Refused}
+use Rattle.console.specs.declared.say.Said.TheVariants.{Opened, Next as SaidNext, Report as SaidReport, Closed, Refused}
 use Rattle.pickbook.specs.declared.held.Held.{Held}
 use Rattle.pickbook.specs.declared.held.Held.TheVariants.{Book, Browse as Browsed}
 use Rattle.pickbook.specs.declared.held.Shown.{Shown}
@@ -38,7 +38,7 @@ kind_told m (Some row) = kind_of m row.pick
 kind_told m None = None
 
 abbrev pub next_said : Model → Result Found TreeFault → Said
-next_said m (Ok found) = Found' found (kind_told m found.row)
+next_said m (Ok found) = SaidNext found (kind_told m found.row)
 next_said m (Err fault) = Refused (Tree fault)
 
 -- the browse w became v by a call of `next` with this limit, of which this is said
@@ -53,7 +53,7 @@ Asks w limit v said =
 abbrev pub ActsOnBrowse : Browsing → Act → Shown → Type 0
 ActsOnBrowse w (Next limit) shown = (v : Browsing) × (shown.held ≡ Browsed v) × Asks w limit v shown.said
 ActsOnBrowse w Report shown =
-    (shown.held ≡ Browsed w) × ((counts : Counts) × (shown.said ≡ Counted counts) × (counts_reply counts ≡ report_of (standing w.desk)))
+    (shown.held ≡ Browsed w) × ((counts : Counts) × (shown.said ≡ SaidReport counts) × (counts_reply counts ≡ report_of (standing w.desk)))
 ActsOnBrowse w Close shown = (shown.held ≡ Book w.view.book) × (shown.said ≡ Closed)
 ActsOnBrowse w (Open measure query) shown = (shown.held ≡ Browsed w) × (shown.said ≡ not_now)
 
