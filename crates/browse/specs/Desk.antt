@@ -1,11 +1,11 @@
 -- Where a browse stands by its table, and what is done there.
-use Rattle.std.specs.Prelude.{ℕ, ◌+◌, List, map, pos, Some, None, Option}
-use Rattle.arrayvec.specs.ArrayVec.{ArrayVec}
+use Rattle.std.specs.Prelude.{ℕ, ◌+◌, List, map, take, pos, Some, None, Option}
 use Rattle.queue.specs.Heap.{queued, behind}
 use Rattle.search.specs.Search.{Standing}
 use Rattle.search.specs.Waiting.{insert, inserts}
 use Rattle.browse.specs.declared.waiting.Class.TheVariants.{Node}
 use Rattle.browse.specs.declared.waiting.Waiting.{Waiting}
+use Rattle.browse.specs.declared.kids.Kids.{Kids}
 use Rattle.browse.specs.declared.desk.Desk.{Desk}
 use Rattle.browse.specs.Thing.{Thing, before}
 use Rattle.browse.specs.Sooner.{sooner}
@@ -19,10 +19,10 @@ one_of None = None
 one_of (Some w) = Some (thing_of w)
 
 -- the kids of a node, lower place first
-abbrev pub kids_held : ArrayVec Waiting → List Thing
-kids_held kids = map thing_of kids.items
+abbrev pub kids_held : Kids → List Thing
+kids_held k = map thing_of (take k.count k.table)
 
-abbrev pub kids_of : Option (ArrayVec Waiting) → Option (List Thing)
+abbrev pub kids_of : Option Kids → Option (List Thing)
 kids_of None = None
 kids_of (Some k) = Some (kids_held k)
 

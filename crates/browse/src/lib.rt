@@ -6,6 +6,7 @@ pub mod answer;
 pub mod browse;
 mod desk;
 mod follow;
+mod kids;
 pub mod law;
 mod opening;
 mod view;

@@ -8,9 +8,9 @@ ghost use Rattle.browse.specs.Desk.{thing_of, one_of, kids_of, standing};
 ghost use Rattle.browse.specs.Opening.{sound_kid, sound_kids, kids_to_open};
 
 use crate::desk::Desk;
+use crate::kids::Kids;
 use crate::view::View;
-use crate::waiting::{Class, Kids, Waiting};
-use arrayvec::ArrayVec;
+use crate::waiting::{Class, Waiting};
 use book::book::Book;
 use book::place::Entry;
 use book_check::target::{in_book, one_lower, target_at};
@@ -57,11 +57,11 @@ impl<B: Book, M: Measure> View<B, M> {
         ensures { kids_of result ≡ sound_kids (B.Book.model self.now.book) (M.Measure.distance self.now.measure self.now.query) (level_of (B.Book.model self.now.book) node) nearest (places_of (B.Book.model self.now.book) node) }
     {
         let level = self.book.level(node);
-        let mut kids = ArrayVec::new();
+        let mut kids = Kids::none();
         for index in 0..self.book.place_count(node) {
             let place = self.book.place(node, index);
             let kid = self.sound_kid(level, nearest, place)?;
-            kids.push(kid);
+            kids.add(kid);
         }
         Some(kids)
     }

@@ -4,7 +4,6 @@ ghost use Rattle.std.specs.Prelude.{◌≡◌};
 ghost use Rattle.browse.specs.Sooner.{sooner, top_number};
 ghost use Rattle.browse.specs.Waitings.{sooner_total};
 
-use arrayvec::ArrayVec;
 use queue::order::Ordered;
 
 /// Whether a waiting thing is to be opened or told. At equal distance nodes come first, since a nearer pick may be below.
@@ -24,9 +23,6 @@ pub struct Waiting {
     pub arrival: u32,
     pub top: i32,
 }
-
-/// What a node's entries name, lower place first. A node has at most 16 places.
-pub(crate) type Kids = ArrayVec<Waiting, 16>;
 
 // Tops are ordered by this number and not by themselves, as `sooner` is defined; the definition stays.
 fn top_number(top: i32) -> u64

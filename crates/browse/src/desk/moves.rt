@@ -5,7 +5,8 @@ ghost use Rattle.search.specs.Law.{first_within};
 ghost use Rattle.browse.specs.Desk.{thing_of, one_of, kids_held, standing, node_at0, without_first, with_one, opened_to};
 
 use super::Desk;
-use crate::waiting::{Class, Kids, Waiting};
+use crate::kids::Kids;
+use crate::waiting::{Class, Waiting};
 use queue::heap;
 
 impl Desk {
@@ -100,7 +101,7 @@ impl Desk {
     {
         self.drop_first();
         self.opened += 1;
-        for kid in kids.as_slice() {
+        for kid in kids.all() {
             self.enter(*kid);
         }
     }

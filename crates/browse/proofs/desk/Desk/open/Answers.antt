@@ -14,7 +14,7 @@ pub loop-kid-init : goal.loop-kid-init
 loop-kid-init c =
     let s = c.args.self.now in
     let d = c.drop_first.new.self in
-    let ks = c.as_slice-kid-items.result.now in
+    let ks = c.all-kid-items.result.now in
     let long : length ks ≡ length (map thing_of ks) = sym (length-map ks thing_of) in
-    let room : length ks + s.used ≤ 2049 = omega (arith, long, ap (λ l. length (map thing_of l)) c.as_slice-kid-items.ensures.value, length_waiting s.used s.table (omega arith)) in
+    let room : length ks + s.used ≤ 2049 = omega (arith, long, ap (λ l. length (map thing_of l)) c.all-kid-items.ensures, length_waiting s.used s.table (omega arith)) in
     (refl, omega (arith, room, c.drop_first.ensures.used), omega (arith, d.grown))
