@@ -8,15 +8,17 @@ mod drawn;
 mod plain;
 
 use crate::plain::{BLANK, Expected};
-use anyhow::anyhow;
 use chance::chance::Chance;
 use day_sheet::record::Record;
 use day_sheet::row::Row;
 use day_sheet::shortlist::shortlist;
 use geometry::bounds::{Bounds, Point};
+use geometry::chessboard::Chessboard;
 use geometry::choice::Choice;
+use geometry::euclidean::Euclidean;
+use geometry::manhattan::Manhattan;
+use refusal::hands::{SliceFault, TypingFault};
 use refusal::refusal::Refusal;
-use std::alloc::Global;
 use std::io;
 
 const RUNS: usize = 900;
@@ -24,21 +26,35 @@ const RUNS: usize = 900;
 // By turns.
 const CHOICES: [Choice; 3] = [Choice::Euclidean, Choice::Manhattan, Choice::Chessboard];
 
+// A shortlist by the type of the measure that is chosen.
+fn list(
+    sheet: &mut [Record],
+    query: &Bounds,
+    choice: Choice,
+    k: usize,
+    answer: &mut [Row],
+) -> Result<usize, SliceFault> {
+    match choice {
+        Choice::Euclidean => shortlist(sheet, query, &Euclidean, k, answer),
+        Choice::Manhattan => shortlist(sheet, query, &Manhattan, k, answer),
+        Choice::Chessboard => shortlist(sheet, query, &Chessboard, k, answer),
+    }
+}
+
 // Whether the shortlist of this sheet is the one that the plain sort gives; `before` is the sheet too.
 fn agrees(
-    heap: Global,
     chance: &mut Chance,
     choice: Choice,
     before: &[Record],
     sheet: &mut [Record],
-) -> anyhow::Result<bool> {
+) -> Result<bool, TypingFault> {
     let k = chance.place(32) + 1;
     let low = drawn::point(chance);
     let high = drawn::point_beyond(chance, low);
-    let query = Bounds::new(low, high).map_err(|_| anyhow!("a drawn query is refused"))?;
+    let query = Bounds::new(low, high)?;
     let mut answer = [BLANK; 32];
-    let told = shortlist(sheet, &query, &choice, k, &mut answer);
-    let expected = Expected::new(heap, before, &query, choice, k)?;
+    let told = list(sheet, &query, choice, k, &mut answer);
+    let expected = Expected::new(before, &query, choice, k)?;
     Ok(
         told == Ok(expected.count())
             && expected.has_rows(&answer)
@@ -46,7 +62,7 @@ fn agrees(
     )
 }
 
-fn agrees_on_another(heap: Global, chance: &mut Chance, choice: Choice) -> anyhow::Result<bool> {
+fn agrees_on_another(chance: &mut Chance, choice: Choice) -> Result<bool, TypingFault> {
     let mut sheet = [Record {
         kind: 0,
         point: Point::ORIGIN,
@@ -55,7 +71,7 @@ fn agrees_on_another(heap: Global, chance: &mut Chance, choice: Choice) -> anyho
     drawn::fill(chance, &mut sheet);
     let before = sheet;
     let size = chance.place(257);
-    agrees(heap, chance, choice, &before[0..size], &mut sheet[0..size])
+    agrees(chance, choice, &before[0..size], &mut sheet[0..size])
 }
 
 fn say(rt: &impl Print, what: &str, told: Result<usize, Refusal>) -> io::Result<()> {
@@ -84,10 +100,10 @@ fn attempt(k: usize, records: usize, rows: usize, level: i32) -> Result<usize, R
     }; 257];
     sheet[2].point.level = level;
     let mut answer = [BLANK; 33];
-    let told = shortlist(
+    let told = list(
         &mut sheet[0..records],
         &query,
-        &Choice::Manhattan,
+        Choice::Manhattan,
         k,
         &mut answer[0..rows],
     )?;
@@ -107,15 +123,14 @@ fn limits(rt: &impl Print) -> io::Result<()> {
     say(rt, "that, and no row wanted", attempt(0, 3, 33, 10_000_001))
 }
 
-fn main(rt: HostRuntime) -> anyhow::Result<()> {
+fn main(rt: HostRuntime) -> io::Result<()> {
     let mut chance = Chance::new(2025);
     let mut same = 0u32;
     for choice in CHOICES.iter().cycle().take(RUNS) {
-        if agrees_on_another(rt.alloc(), &mut chance, *choice)? {
+        if agrees_on_another(&mut chance, *choice) == Ok(true) {
             same = same.saturating_add(1);
         }
     }
     println!(rt; "{same} of {RUNS} shortlists are as a plain sort has them")?;
-    limits(&rt)?;
-    Ok(())
+    limits(&rt)
 }

@@ -1,12 +1,11 @@
 //! What a shortlist is to be, worked out plainly.
 
-use anyhow::anyhow;
 use day_sheet::record::Record;
 use day_sheet::row::Row;
 use geometry::bounds::Bounds;
 use geometry::choice::Choice;
 use plain_distance::distance::plain_distance;
-use std::alloc::Global;
+use refusal::hands::TypingFault;
 
 /// A row that no shortlist tells.
 pub(crate) const BLANK: Row = Row {
@@ -14,47 +13,50 @@ pub(crate) const BLANK: Row = Row {
     place: u8::MAX,
 };
 
-/// The rows to be told: those of all records in order, and the first `k` of them.
+/// The rows of all records in order, and how many of them are to be told.
 #[derive(Drop)]
 pub(crate) struct Expected {
-    rows: Vec<Row>,
+    rows: [Row; 256],
+    count: usize,
 }
 
 impl Expected {
     pub(crate) fn new(
-        heap: Global,
         sheet: &[Record],
         query: &Bounds,
         choice: Choice,
         k: usize,
-    ) -> anyhow::Result<Expected> {
-        let mut rows = Vec::new(heap);
+    ) -> Result<Expected, TypingFault> {
+        let mut rows = [BLANK; 256];
         for (place, record) in (0..=u8::MAX).zip(sheet) {
-            let at = Bounds::at(record.point).map_err(|_| anyhow!(
-                "a drawn record is out of range"
-            ))?;
+            let at = Bounds::at(record.point)?;
             let distance = plain_distance(choice, query, &at);
-            rows.push(Row { distance, place })?;
+            rows[usize::from(place)] = Row { distance, place };
         }
-        // by a key written here, not by the order that is compared with it
-        rows.sort_by_key(|row| (row.distance, row.place))?;
-        rows.truncate(k);
-        Ok(Expected { rows })
+        // by a key written here, not by the order that is compared with it; no two rows share a key
+        rows[..sheet.len().min(256)].sort_unstable_by_key(|row| (row.distance, row.place));
+        Ok(Expected {
+            rows,
+            count: k.min(sheet.len()),
+        })
     }
 
     pub(crate) fn count(&self) -> usize {
-        self.rows.len()
+        self.count
     }
 
     /// Whether the rows told are these, and the others as they were.
     pub(crate) fn has_rows(&self, answer: &[Row]) -> bool {
-        answer.split_at_checked(self.rows.len()).is_some_and(|(told, others)| {
-            told == self.rows.as_slice() && others.iter().all(|row| *row == BLANK)
+        answer.split_at_checked(self.count).is_some_and(|(told, others)| {
+            self.rows.starts_with(told) && others.iter().all(|row| *row == BLANK)
         })
     }
 
     fn lists(&self, place: u8) -> bool {
-        self.rows.iter().any(|row| row.place == place)
+        self.rows
+            .iter()
+            .take(self.count)
+            .any(|row| row.place == place)
     }
 
     /// Whether just the records listed are marked, and nothing else changed.
