@@ -123,6 +123,8 @@ impl Source {
         Bounds::try_from(extent).map_err(|_| anyhow!("a drawn query is refused"))
     }
 
+    // A browse is large: once inlined, its room on the stack stays taken in each caller.
+    #[inline(never)]
     fn compare_one<B: Book + Drop>(
         &mut self,
         book: B,
