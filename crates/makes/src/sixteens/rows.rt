@@ -10,7 +10,8 @@ use crate::sixteens::{Row, Sixteens};
 pub(crate) fn group_count(count: u16) -> u16
     ensures { result ≡ group_count count }
 {
-    count.div_ceil(16)
+    // Not `div_ceil`, which takes a remainder besides: every question of a tally asks this.
+    ((u32::from(count) + 15) / 16) as u16
 }
 
 impl Row {
@@ -42,21 +43,26 @@ impl Row {
 
 impl Sixteens {
     /// The row of a node, where there is such a node.
+    // No loop: there are three rows at most, as 1,000 picks make 63 leaves, 4 nodes above these and one at the top.
     #[tactic(auto, using(crate::proofs::Climbing::bounded, crate::proofs::Climbing::found, crate::proofs::Climbing::ended, crate::proofs::Climbing::climbs))]
     pub(crate) fn row_of(&self, node: u16) -> Option<Row>
         ensures { result ≡ row_of self.now.count node }
     {
-        let mut row = Row {
+        let leaves = Row {
             level: 0,
             first: 0,
             target: 0,
             places: self.count,
             below: 1,
         };
-        // Not `successors` and `find`: `find` asks that the items end, which `successors` does not tell of its own.
-        while !row.reaches(node) {
-            row = row.above()?;
+        if leaves.reaches(node) {
+            return Some(leaves);
         }
-        Some(row)
+        let middle = leaves.above()?;
+        if middle.reaches(node) {
+            return Some(middle);
+        }
+        let top = middle.above()?;
+        (node == top.first).then_some(top)
     }
 }
