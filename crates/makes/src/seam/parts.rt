@@ -6,7 +6,6 @@ ghost use Rattle.makes.specs.Seam.{part_of, root_place};
 
 use crate::seam::{Part, Seam, Sizes};
 use book::place::Entry;
-use std::cmp::Ordering;
 
 impl Sizes {
     /// The sizes of no book at all.
@@ -42,13 +41,11 @@ impl Seam {
     pub(crate) fn part(&self, node: u16) -> Part
         ensures { result ≡ part_of self.now node }
     {
-        let Some(rest) = node.checked_sub(self.left.nodes) else {
-            return Part::Left(node);
-        };
-        match rest.cmp(&self.right.nodes) {
-            Ordering::Less => Part::Right(rest),
-            Ordering::Equal => Part::Root,
-            Ordering::Greater => Part::Outside,
+        match node.checked_sub(self.left.nodes) {
+            None => Part::Left(node),
+            Some(rest) if rest < self.right.nodes => Part::Right(rest),
+            Some(rest) if rest == self.right.nodes => Part::Root,
+            Some(_) => Part::Outside,
         }
     }
 
