@@ -15,6 +15,21 @@ pub enum Kind {
     FluidLevel = 5,
 }
 
+impl Kind {
+    /// The kind as it is written on paper.
+    pub fn words(self) -> &'static str
+        ensures { result.now ≡ words self }
+    {
+        match self {
+            Kind::CasingTop => "casing top",
+            Kind::Collar => "collar",
+            Kind::Perforation => "perforation",
+            Kind::Marker => "marker",
+            Kind::FluidLevel => "fluid level",
+        }
+    }
+}
+
 /// A number that no kind has.
 #[derive(Clone, Copy, PartialEq, Eq, Debug)]
 pub struct UnknownKind(pub u8);
@@ -48,12 +63,6 @@ impl fmt::Display for Kind {
     ghost output = { λ kind. Some (words kind) };
 
     fn fmt<W: fmt::Write>(&self, f: &mut fmt::Formatter<W>) -> fmt::Result {
-        f.write_str(match self {
-            Kind::CasingTop => "casing top",
-            Kind::Collar => "collar",
-            Kind::Perforation => "perforation",
-            Kind::Marker => "marker",
-            Kind::FluidLevel => "fluid level",
-        })
+        f.write_str(self.words())
     }
 }
