@@ -34,9 +34,12 @@ fn print_leaf(rt: &HostRuntime, book: &Loaded, node: u16) -> anyhow::Result<()> 
     Ok(())
 }
 
-// How many bytes are equal, place by place.
+// How many bytes are equal, place by place. Where zeros and ones are added, several are compared at a time.
 fn equal_bytes(a: &[u8], b: &[u8]) -> usize {
-    a.iter().zip(b.iter()).filter(|(x, y)| x == y).count()
+    a.iter().zip(b.iter()).fold(
+        0usize,
+        |equal, (x, y)| equal.wrapping_add(usize::from(x == y)),
+    )
 }
 
 fn print_book(rt: &HostRuntime, book: &Loaded, bytes: &[u8]) -> anyhow::Result<()> {
