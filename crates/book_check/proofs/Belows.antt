@@ -1,6 +1,6 @@
 -- The first below a number, and some below a number, by what stands at each.
-use Rattle.std.proofs.Common.{◌≡◌, ℕ, zero, suc, ◌+◌, ◌<◌, Bool, true, false, ◌||◌, List, Some, None, Option, sym, refl, ap, ◌∙◌, ⊎_elim, add-zero, add-one, arith}
-use Rattle.std.specs.List.{list_any, filter_map, cons_option, range_with_len}
+use Rattle.std.proofs.Common.{◌≡◌, ℕ, zero, suc, ◌+◌, ◌<◌, Bool, true, false, ◌||◌, Some, None, Option, sym, refl, ap, ◌∙◌, ⊎_elim, add-zero, add-one, arith}
+use Rattle.std.specs.List.{list_any, range_with_len}
 use Rattle.std.proofs.lemmas.Bool.{false≢true, or_parts, or_from, or_cases, or_left, or_right, cases_eq}
 use Rattle.book_check.specs.Below.{or_else, first_below, some_below}
 
@@ -36,21 +36,17 @@ some_front f (suc n) = ap (λ b. f (suc n) || b) (some_front f n) ∙ turned (f 
     turned true false c = refl
     turned false b c = refl
 
--- `any` over what there is at a, at a + 1, and so on for n numbers; q is the test where there may be nothing
-pub any_below : {A : Type 0} (p : A → Bool) (q : Option A → Bool) (at : ℕ → Option A) → q None ≡ false → ((x : A) → p x ≡ q (Some x)) → (f : ℕ → Bool) (a n : ℕ) → ((k : ℕ) → q (at (a + k)) ≡ f k) → list_any p (filter_map at (range_with_len a n)) ≡ some_below f n
-any_below p q at none some f a zero h = refl
-any_below p q at none some f a (suc n) h =
-    here (at a) _ ∙ (λ i. first i || any_below p q at none some (λ k. f (suc k)) (a + 1) n after i) ∙ sym (some_front f n)
+-- `any` over a, a + 1, and so on for n numbers
+pub any_below : (test : ℕ → Bool) (f : ℕ → Bool) (a n : ℕ) → ((k : ℕ) → test (a + k) ≡ f k) → list_any test (range_with_len a n) ≡ some_below f n
+any_below test f a zero h = refl
+any_below test f a (suc n) h =
+    (λ i. first i || any_below test (λ k. f (suc k)) (a + 1) n after i) ∙ sym (some_front f n)
   where
-    here : (o : Option _) (xs : List _) → list_any p (cons_option o xs) ≡ (q o || list_any p xs)
-    here None xs = λ i. sym none i || list_any p xs
-    here (Some x) xs = λ i. some x i || list_any p xs
+    first : test a ≡ f 0
+    first = ap test (sym (add-zero a)) ∙ h 0
 
-    first : q (at a) ≡ f 0
-    first = ap (λ k. q (at k)) (sym (add-zero a)) ∙ h 0
-
-    after : (k : ℕ) → q (at (a + 1 + k)) ≡ f (suc k)
-    after k = ap (λ j. q (at j)) (let e : a + 1 + k ≡ a + suc k = omega arith in e) ∙ h (suc k)
+    after : (k : ℕ) → test (a + 1 + k) ≡ f (suc k)
+    after k = ap test (let e : a + 1 + k ≡ a + suc k = omega arith in e) ∙ h (suc k)
 
 -- ---- first
 

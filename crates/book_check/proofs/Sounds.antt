@@ -1,8 +1,7 @@
 -- The target of a place that is sound by itself, test by test.
 use Rattle.std.proofs.Common.{◌≡◌, ℕ, Bool, true, false, not, [], ◌∷◌, Ok, Result, sym, refl, ap, ◌∙◌, zero-add, Some, None, Option}
-use Rattle.std.specs.List.{list_any, filter_map, range_with_len}
+use Rattle.std.specs.List.{list_any, range_with_len}
 use Rattle.refusal.specs.Told.{Told, at_place}
-use Rattle.geometry.specs.Contains.{contains}
 use Rattle.geometry.specs.declared.bounds.Bounds.{Bounds}
 use Rattle.book.specs.Model.{Model, level_of, place_count, place_of}
 use Rattle.book.specs.declared.place.Entry.{Entry}
@@ -14,12 +13,11 @@ use Rattle.book_check.proofs.Belows.{any_below}
 
 -- ---- an entry outside the box
 
--- `any` over the entries of a node, spoilt places passed over
-pub any_outside : (m : Model) (b : Bounds) (k : ℕ) → list_any (λ (e : Entry). not (contains b e.bounds)) (filter_map (place_of m k) (range_with_len 0 (place_count m k))) ≡ sticks_out m b k
+-- `any` over the places of a node
+pub any_outside : (m : Model) (b : Bounds) (k : ℕ) → list_any (λ j. outside b (place_of m k j)) (range_with_len 0 (place_count m k)) ≡ sticks_out m b k
 unfolding sticks_out
 any_outside m b k =
-    any_below (λ e. not (contains b e.bounds)) (outside b) (place_of m k) refl (λ e. refl) (λ j. outside b (place_of m k j)) 0 (place_count m k)
-    (λ j. ap (λ i. outside b (place_of m k i)) (zero-add j))
+    any_below (λ j. outside b (place_of m k j)) (λ j. outside b (place_of m k j)) 0 (place_count m k) (λ j. ap (λ i. outside b (place_of m k i)) (zero-add j))
 
 -- ---- the tests of a place
 

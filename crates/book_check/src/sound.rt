@@ -13,9 +13,10 @@ use refusal::hands::TreeFault;
 fn sticks_out<B: Book>(book: &B, bounds: &Bounds, node: u16) -> bool
     ensures { result ≡ sticks_out (B.Book.model book.now) bounds.now node }
 {
-    (0..book.place_count(node))
-        .filter_map(|index| book.place(node, index))
-        .any(|entry| !bounds.contains(&entry.bounds))
+    (0..book.place_count(node)).any(|index| {
+        book.place(node, index)
+            .is_some_and(|entry| !bounds.contains(&entry.bounds))
+    })
 }
 
 fn leaves_box<B: Book>(book: &B, bounds: &Bounds, target: Target) -> bool
