@@ -8,7 +8,10 @@ use book::kind::Kind;
 pub(crate) fn all_kinds(numbers: &[u8]) -> bool
     ensures { result ≡ all_kinds numbers.now }
 {
-    numbers.iter().all(|number| Kind::try_from(*number).is_ok())
+    // With no way out of the loop several numbers are tested at a time.
+    numbers
+        .iter()
+        .fold(true, |all, number| all & Kind::try_from(*number).is_ok())
 }
 
 /// Fills the table with the kinds of these numbers alone.
