@@ -5,6 +5,8 @@ ghost use Rattle.std.specs.Fn.{FnReturnsAt};
 ghost use Rattle.std.specs.List.{AllZip};
 
 /// Fills the table with what is read of each of these records, in their order, and with nothing else.
+// Not inlined: among the values of a caller the loop would keep parts of each item in memory.
+#[inline(never)]
 pub(crate) fn fill<R, T: Drop, F: Fn(&R) -> T>(table: &mut Vec<T>, records: &[R], read: F)
     requires callable { F.IsAlwaysCallable read }
     requires fits { length records.now ≤ vec_capacity table.old }

@@ -43,11 +43,18 @@ impl Bounds {
     pub fn between(low: Point, high: Point) -> Option<Bounds>
         ensures { result ≡ bounds_at low high }
     {
-        Some(Bounds {
-            easting: Span::new(low.easting, high.easting)?,
-            northing: Span::new(low.northing, high.northing)?,
-            level: Span::new(low.level, high.level)?,
-        })
+        let easting = Span::new(low.easting, high.easting);
+        let northing = Span::new(low.northing, high.northing);
+        let level = Span::new(low.level, high.level);
+        // One way out for all three, in place of a `?` at each: the tests of a box then take fewer instructions.
+        match (easting, northing, level) {
+            (Some(easting), Some(northing), Some(level)) => Some(Bounds {
+                easting,
+                northing,
+                level,
+            }),
+            _ => None,
+        }
     }
 
     /// The box with these corners. All six ends are tested for their range before any two are compared.
