@@ -1,2 +1,4 @@
 pub mod Cases
 pub mod Reading
+pub mod Showing
+pub mod Writing

@@ -5,7 +5,7 @@ ghost use Rattle.refusal.specs.Told.{answered, typing_told};
 ghost use Rattle.level.specs.Read.{longest_text, digits_spell, spelt, reads, TextOf, ReadingLaw, RoundTrip, NoTwoShareAText};
 
 use crate::range::is_level;
-use crate::text::level_text;
+use crate::text::{ROOM, level_text};
 use refusal::hands::TypingFault;
 
 /// No level has a longer text.
@@ -35,10 +35,10 @@ fn candidate(text: &[u8]) -> i64
 fn is_text_of(text: &[u8], level: i32) -> bool
     ensures { Decides result (TextOf text.now level) }
 {
-    is_level(level) && level_text(level).as_str().as_bytes() == text
+    is_level(level) && level_text(level, &mut [0; ROOM]) == text
 }
 
-/// Reads a level: takes the texts that `write_level` can give, and no others.
+/// Reads a level: takes the texts that `level_text` makes of levels, and no others.
 #[tactic(auto, using(crate::proofs::Reading::too_long, crate::proofs::Reading::obeys, crate::proofs::Reading::round_trip, crate::proofs::Reading::no_two_share))]
 pub fn read_level(text: &[u8]) -> Result<i32, TypingFault>
     ensures answer { answered typing_told result ≡ reads text.now }

@@ -5,7 +5,7 @@ ghost use Rattle.refusal.specs.Told.{answered, told};
 ghost use Rattle.level.specs.Write.{writes, written};
 
 use crate::range::is_level;
-use crate::text::level_text;
+use crate::text::{put_text, text_length};
 use refusal::hands::{SliceFault, TypingFault};
 use refusal::refusal::Refusal;
 
@@ -17,11 +17,10 @@ pub fn write_level(level: i32, out: &mut [u8]) -> Result<usize, Refusal>
     if !is_level(level) {
         return Err(Refusal::Typing(TypingFault::OutOfRange));
     }
-    let text = level_text(level);
-    let size = text.len();
+    let size = text_length(level);
     if out.len() < size {
         return Err(Refusal::Slice(SliceFault::TooShort));
     }
-    out[..size].copy_from_slice(text.as_str().as_bytes());
+    put_text(level, &mut out[..size]);
     Ok(size)
 }
