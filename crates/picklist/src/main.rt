@@ -36,10 +36,10 @@ fn print_leaf(rt: &HostRuntime, book: &Loaded, node: u16) -> anyhow::Result<()> 
 
 // How many bytes are equal, place by place. Where zeros and ones are added, several are compared at a time.
 fn equal_bytes(a: &[u8], b: &[u8]) -> usize {
-    a.iter().zip(b.iter()).fold(
-        0usize,
-        |equal, (x, y)| equal.wrapping_add(usize::from(x == y)),
-    )
+    a.iter()
+        .zip(b.iter())
+        .map(|(x, y)| usize::from(x == y))
+        .fold(0, usize::wrapping_add)
 }
 
 fn print_book(rt: &HostRuntime, book: &Loaded, bytes: &[u8]) -> anyhow::Result<()> {
