@@ -6,7 +6,7 @@ use crate::waiting::Waiting;
 
 mod moves;
 
-// A table and a count of its own, so that browsing rests on no crate of the kit; nothing on a heap.
+// A table and a count of its own: so browsing rests on the standard library alone, with nothing on a heap.
 /// What a node's entries name, lower place first. A node has at most 16 places.
 #[derive(Drop)]
 pub(crate) struct Kids {
